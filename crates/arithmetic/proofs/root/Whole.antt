@@ -1,0 +1,189 @@
+-- The steps of `finish`, `of_parts` and `root` on plain numbers. Assumes nothing.
+use mathlib.Core.Path.{_≡_, refl, sym, ap, _∙_, subst}
+use Prim.Native.Nat.{ℕ, zero, suc, _+_, _-_, _*_, _/_, _%_, _^_, _≤_, _<_}
+use native.Mathlib.Nat.{le-trans, le-of-eq, le-of-suc-le-suc, lt-of-lt-of-le, lt-of-not-le, not-le-of-lt, lt-irrefl, mul-le-mul, mul-le-mul-right, mul-lt-mul-of-pos-right, mul-assoc, mul-comm, mul-right-comm, mul-pos, zero-mul, mod-eq-of-lt, mul-div-cancel}
+use native.Mathlib.Numerals.{add-one}
+use native.Mathlib.Omega.{arith}
+use mathlib.Core.Bool.{Bool, true, false, not, cond, true≢false, false≢true}
+use lib.Dec.{T, leb, ltb, eqb, ltb→lt, leb→le, nleb→lt, not-T, eqb·suc-zero}
+use mathlib.Core.Logic.{_⊎_, inl, inr}
+use lib.Pow.{pow-add, pow-pos, pow-mono}
+use lib.Count.{leadingZeros, leading-top}
+use lib.Ieee.{Float, nan, inf, fin, binary32, up, down, fits, isNan, ofFields, ofBits, toBits, nanBits, odd, div, ne, round}
+use lib.Ieee.Fits.{round-fits, down-pos}
+use lib.Ieee.Bits.{ofBits-fits, ofBits-toBits, toBits-lt, nanBits-above}
+use lib.Ieee.Compare.{differs-from-itself, nan-differs}
+use lib.Ieee.Exact.{HasValue, odd-sign}
+use Rattle.arithmetic.specs.Root.{Near, nearestRoot, rootOf}
+use Rattle.arithmetic.proofs.root.Squares.{sticky}
+use Rattle.arithmetic.proofs.root.Rounded.{nearest-is, value}
+use Rattle.arithmetic.proofs.root.Patterns.{same-value, ofBits-is, normal-value, subnormal-value}
+
+-- ---- `near_root`
+pub least : (m v : ℕ) → 70368744177664 ≤ m → Near m v → 8388608 ≤ v
+least m v lo near =
+    let b : m ≤ v * v + v = near .before in
+    le-of-suc-le-suc (lt-of-not-le (λ (g : suc v ≤ 8388608). not-le-of-lt lo (let k : v ≤ 8388607 = omega arith in omega (arith, mul-le-mul k k))))
+
+pub greatest : (m v : ℕ) → m ≤ 281474959933440 → Near m v → v < 16777216
+greatest m v hi near =
+    let a : v * v < m + v = near .after in
+    lt-of-not-le (λ (g : 16777216 ≤ v). not-le-of-lt a (omega (arith, mul-le-mul-right v g)))
+
+pub nearest-fits : (n : ℕ) → T (fits binary32 (nearestRoot binary32 n))
+nearest-fits n = subst (λ (x : Float). T (fits binary32 x)) (sym (nearest-is n)) (round-fits binary32 false (sticky n) (2 ^ 151))
+
+pub built : (m h v : ℕ) → h ≤ 200 → 70368744177664 ≤ m → m ≤ 281474959933440 → Near m v → ofBits binary32 (h * 8388608 + v) ≡ nearestRoot binary32 (m * 2 ^ (2 * h + 2))
+built m h v H lo hi near =
+    let a = least m v lo near in
+    let b = greatest m v hi near in
+    same-value binary32 false (ofBits binary32 (h * 8388608 + v)) (nearestRoot binary32 (m * 2 ^ (2 * h + 2))) (v * 2 ^ h)
+    (ofBits-fits binary32 (h * 8388608 + v)) (nearest-fits (m * 2 ^ (2 * h + 2)))
+    (normal-value (h * 8388608 + v) v h (omega arith) (omega arith) (omega arith))
+    (value m h v H (omega arith) b lo (omega arith) near)
+
+-- a pattern below the infinity's is no NaN's
+pub no-nan : (b : ℕ) → b < 2139095040 → T (not (nanBits binary32 b))
+no-nan b h =
+    subst (λ (t : Bool). T (not t)) (sym (nanBits-above binary32 b))
+    (not-T (ltb 2139095040 (b % 2147483648)) (λ (t : T (ltb 2139095040 (b % 2147483648))). not-le-of-lt (ltb→lt 2139095040 (b % 2147483648) t) (omega arith)))
+
+-- ---- `of_parts`
+pub regroup : (m k e g : ℕ) → k + e ≡ g → m * 2 ^ k * 2 ^ e ≡ m * 2 ^ g
+regroup m k e g h = mul-assoc m (2 ^ k) (2 ^ e) ∙ ap (λ (x : ℕ). m * x) (sym (pow-add 2 k e) ∙ ap (λ (x : ℕ). 2 ^ x) h)
+
+pub even-or-odd : (g : ℕ) → (g % 2 ≡ 0) ⊎ (g % 2 ≡ 1)
+even-or-odd g = go (leb 1 (g % 2)) (leb→le 1 (g % 2)) (nleb→lt 1 (g % 2))
+  where
+    go : (b : Bool) → (T b → 1 ≤ g % 2) → (T (not b) → g % 2 < 1) → (g % 2 ≡ 0) ⊎ (g % 2 ≡ 1)
+    go true y n = let l : 1 ≤ g % 2 = y tt in inr (omega arith)
+    go false y n = let l : g % 2 < 1 = n tt in inl (omega arith)
+
+-- m has 24 digits, and is moved up by 24 places, or by 23, so that an even power of two is left
+pub record Widened (m n : ℕ) : Type 0 where
+  pub low : 70368744177664 ≤ n
+  pub high : n ≤ 281474959933440
+
+pub widened : (m g : ℕ) → 8388608 ≤ m → m < 16777216 → Widened m (m * 2 ^ (24 - g % 2))
+widened m g lo hi =
+    elim (even-or-odd g) [
+      | inl e ↦ subst (λ (x : ℕ). Widened m (m * 2 ^ (24 - x))) (sym e) (record { low = omega arith; high = omega arith })
+      | inr e ↦ subst (λ (x : ℕ). Widened m (m * 2 ^ (24 - x))) (sym e) (record { low = omega arith; high = omega arith })
+    ]
+
+pub half-power : (m g : ℕ) → 128 ≤ g → m * 2 ^ (24 - g % 2) * 2 ^ (2 * ((g + 1) / 2 - 13) + 2) ≡ m * 2 ^ g
+half-power m g h = regroup m (24 - g % 2) (2 * ((g + 1) / 2 - 13) + 2) g (omega arith)
+
+-- ---- `root`: the root of a value above zero, by its size in units of the smallest value
+quotient : (s n d u w : ℕ) → 0 < d → s * u ≡ n * d → s * (u * w) / d ≡ n * w
+quotient s n d u w D h =
+    ap (λ (x : ℕ). x / d) (sym (mul-assoc s u w) ∙ ap (λ (x : ℕ). x * w) h ∙ mul-right-comm n d w) ∙ mul-div-cancel (n * w) D
+
+nothing : (u n d c : ℕ) → 0 * u * c ≡ n * d → 0 < n → 0 < d → ⊥
+nothing u n d c h N D = lt-irrefl 0 (subst (λ (x : ℕ). 0 < x) (sym h ∙ ap (λ (x : ℕ). x * c) (zero-mul u) ∙ zero-mul c) (mul-pos N D))
+
+pub root-of-value : (x : Float) (n : ℕ) → HasValue x false n (2 ^ 149) → 0 < n → rootOf binary32 x ≡ nearestRoot binary32 (n * 2 ^ 151)
+unfolding rootOf
+root-of-value nan n h N = absurd h
+root-of-value (inf s) n h N = absurd h
+root-of-value (fin s zero e) n h N = absurd (nothing (up e) n (down e) (2 ^ 149) (h .1) N (down-pos e))
+root-of-value (fin true (suc m) e) n h N = absurd (true≢false (h .0))
+root-of-value (fin false (suc m) e) n h N = ap (nearestRoot binary32) (quotient (suc m * up e) n (down e) (2 ^ 149) (2 ^ 151) (down-pos e) (h .1))
+
+-- a normal value
+pub normal-root : (b : ℕ) → 8388608 ≤ b → b < 2139095040 → rootOf binary32 (ofBits binary32 b) ≡ nearestRoot binary32 ((b % 8388608 + 8388608) * 2 ^ (b / 8388608 + 150))
+normal-root b lo hi =
+    let x = b / 8388608 - 1 in
+    let m = b % 8388608 + 8388608 in
+    root-of-value (ofBits binary32 b) (m * 2 ^ x) (normal-value b m x hi (omega arith) (omega arith)) (mul-pos {m = m} (omega arith) (pow-pos x))
+    ∙ ap (nearestRoot binary32) (regroup m x 151 (b / 8388608 + 150) (omega arith))
+
+-- a value below the normal ones, with its digits moved up by z places
+pub record Moved (b z : ℕ) : Type 0 where
+  pub enough : 8 ≤ leadingZeros 32 b
+  pub few : z ≤ 23
+  pub low : 8388608 ≤ b * 2 ^ z
+  pub high : b * 2 ^ z < 16777216
+
+pub moved : (b : ℕ) → 0 < b → b < 8388608 → Moved b (leadingZeros 32 b - 8)
+moved b B small =
+    let t = leading-top 32 b B (omega arith) in
+    let j = t .0 in
+    let z = leadingZeros 32 b - 8 in
+    let J : j < 23 = lt-of-not-le (λ (g : 23 ≤ j). not-le-of-lt small (le-trans (pow-mono g) (t .2))) in
+    let e : leadingZeros 32 b + suc j ≡ 32 = t .1 in
+    let p : j + z ≡ 23 = omega arith in
+    let q : suc j + z ≡ 24 = omega arith in
+    record {
+      enough = omega arith;
+      few = omega arith;
+      low = le-trans (le-of-eq (sym (ap (λ (x : ℕ). 2 ^ x) p) ∙ pow-add 2 j z)) (mul-le-mul-right (2 ^ z) (t .2));
+      high = lt-of-lt-of-le (mul-lt-mul-of-pos-right (t .3) (pow-pos z)) (le-of-eq (sym (pow-add 2 (suc j) z) ∙ ap (λ (x : ℕ). 2 ^ x) q));
+    }
+
+pub moved-whole : (b z : ℕ) → Moved b z → b * 2 ^ z % 4294967296 ≡ b * 2 ^ z
+moved-whole b z h = mod-eq-of-lt (omega (arith, h .high))
+
+pub subnormal-root : (b z : ℕ) → 0 < b → b < 8388608 → z ≤ 23 → rootOf binary32 (ofBits binary32 b) ≡ nearestRoot binary32 (b * 2 ^ z * 2 ^ (151 - z))
+subnormal-root b z B small few = root-of-value (ofBits binary32 b) b (subnormal-value b small) B ∙ ap (nearestRoot binary32) (sym (regroup b z (151 - z) 151 (omega arith)))
+
+-- ---- `root`: the other values
+pub nan-root : (x : Float) → ne x x ≡ true → x ≡ rootOf binary32 x
+unfolding rootOf
+nan-root x e = subst (λ (y : Float). y ≡ rootOf binary32 y) (sym (differs-from-itself x (subst T (sym e) tt))) refl
+
+pub no-nan-value : (x : Float) → ne x x ≡ false → T (not (isNan x))
+unfolding isNan
+no-nan-value nan e = absurd (true≢false (sym nan-differs ∙ e))
+no-nan-value (inf s) e = tt
+no-nan-value (fin s m d) e = tt
+
+pub zero-root : ofBits binary32 0 ≡ rootOf binary32 (ofBits binary32 0)
+unfolding rootOf ofBits
+zero-root = refl
+
+pub minus-zero-root : ofBits binary32 2147483648 ≡ rootOf binary32 (ofBits binary32 2147483648)
+unfolding rootOf ofBits
+minus-zero-root = refl
+
+pub infinity-root : ofBits binary32 2139095040 ≡ rootOf binary32 (ofBits binary32 2139095040)
+unfolding rootOf ofBits
+infinity-root = refl
+
+pub zero-by-zero : div binary32 (ofBits binary32 0) (ofBits binary32 0) ≡ nan
+unfolding div ofBits
+zero-by-zero = refl
+
+-- a value below zero has none
+negative-value : (x : Float) (a c : ℕ) → HasValue x true a c → 0 < a → rootOf binary32 x ≡ nan
+unfolding rootOf
+negative-value nan a c h A = refl
+negative-value (inf s) a c h A = absurd h
+negative-value (fin s zero e) a c h A = absurd (nothing (up e) a (down e) c (h .1) A (down-pos e))
+negative-value (fin true (suc m) e) a c h A = refl
+negative-value (fin false (suc m) e) a c h A = absurd (false≢true (h .0))
+
+negative-fields : (x t : ℕ) → (x ≡ 0 → 0 < t) → rootOf binary32 (ofFields binary32 true x t) ≡ nan
+unfolding ofFields
+negative-fields zero t h = negative-value (odd 24 true t 0 149) (t * 1) (2 ^ 149) (odd-sign 24 true t 0 149) (mul-pos (h refl) (pow-pos 0))
+negative-fields (suc x) t h = go (eqb (suc x) 255) (eqb t 0)
+  where
+    go : (p q : Bool) → rootOf binary32 (cond p (cond q (inf true) nan) (odd 24 true (8388608 + t) x 149)) ≡ nan
+    go true true = unfold rootOf in refl
+    go true false = unfold rootOf in refl
+    go false q = negative-value (odd 24 true (8388608 + t) x 149) ((8388608 + t) * 2 ^ x) (2 ^ 149) (odd-sign 24 true (8388608 + t) x 149) (mul-pos {m = 8388608 + t} (omega arith) (pow-pos x))
+
+nan-fields : (s : Bool) (t : ℕ) → 0 < t → rootOf binary32 (ofFields binary32 s 255 t) ≡ nan
+unfolding ofFields rootOf
+nan-fields s zero h = absurd (lt-irrefl 0 h)
+nan-fields s (suc t) h = ap (λ (q : Bool). rootOf binary32 (cond q (inf s) nan)) (eqb·suc-zero t)
+
+pub no-root : (b : ℕ) → 2139095040 ≤ b → (b ≡ 2139095040 → ⊥) → (b ≡ 2147483648 → ⊥) → b < 4294967296 → rootOf binary32 (ofBits binary32 b) ≡ nan
+no-root b lo i z hi = ap (rootOf binary32) (ofBits-is b) ∙ go (leb 2147483648 b) (leb→le 2147483648 b) (nleb→lt 2147483648 b)
+  where
+    go : (s : Bool) → (T s → 2147483648 ≤ b) → (T (not s) → b < 2147483648) → rootOf binary32 (ofFields binary32 s (b % 2147483648 / 8388608) (b % 8388608)) ≡ nan
+    go true p q = let l : 2147483648 ≤ b = p tt in negative-fields (b % 2147483648 / 8388608) (b % 8388608) (λ (e : b % 2147483648 / 8388608 ≡ 0). omega arith)
+    go false p q =
+        let l : b < 2147483648 = q tt in
+        let e : b % 2147483648 / 8388608 ≡ 255 = omega arith in
+        ap (λ (x : ℕ). rootOf binary32 (ofFields binary32 false x (b % 8388608))) e ∙ nan-fields false (b % 8388608) (omega arith)

@@ -1,0 +1,75 @@
+-- `root::of_parts` meets its contract. Assumes nothing.
+use mathlib.Core.Path.{_≡_, ap, _∙_, subst}
+use Prim.Native.Nat.{ℕ, _+_, _-_, _*_, _/_, _%_, _^_, _<_}
+use native.Mathlib.Omega.{arith}
+use lib.Ieee.{binary32}
+use Rattle.arithmetic.specs.Root.{Near, nearestRoot}
+use Rattle.arithmetic.proofs.root.Whole.{Widened, widened, half-power, greatest, built, no-nan}
+use borrow.Author.Needs.{needs}
+use Rattle.arithmetic.proofs.root.of_parts.Statement.{statement}
+use Rattle.arithmetic.proofs.root.of_parts.Tie as tie
+
+abbrev moved : tie.Start → ℕ
+moved c = c .args .m * 2 ^ (24 - c .args .g % 2)
+
+wide : (c : tie.Start) → Widened (c .args .m) (moved c)
+wide c = widened (c .args .m) (c .args .g) (c .pre .0) (c .pre .1)
+
+near : (c : tie.After-near-root) → Near (moved (c .before .before)) (c .near-root .result)
+near c = subst (λ (n : ℕ). Near n (c .near-root .result)) (c .before .widened .ensures) (c .near-root .ensures)
+
+small : (c : tie.After-near-root) → c .near-root .result < 16777216
+small c = greatest (moved (c .before .before)) (c .near-root .result) (wide (c .before .before) .high) (near c)
+
+widened-requires : tie.Need-widened-requires
+widened-requires c κs = search needs
+
+mul-near-root : tie.Need-mul-near-root
+mul-near-root c = search needs
+
+add-near-root : tie.Need-add-near-root
+add-near-root c = search needs
+
+near-root-requires : tie.Need-near-root-requires
+near-root-requires c κs = let w = wide (c .before) in omega (arith, c .widened .ensures, w .low, w .high)
+
+add-result : tie.Need-add-result
+add-result c = search needs
+
+sub-result : tie.Need-sub-result
+sub-result c = search needs
+
+mul-result : tie.Need-mul-result
+mul-result c = search needs
+
+add-result-2 : tie.Need-add-result-2
+add-result-2 c = omega (arith, small c)
+
+cast-result : tie.Need-cast-result
+cast-result c = omega (arith, small c)
+
+float-from-bits-result : tie.Need-float-from-bits-result
+float-from-bits-result c = no-nan (((c .before .before .args .g + 1) / 2 - 13) * 8388608 + c .near-root .result) (omega (arith, small c))
+
+returns : tie.Need-returns
+returns c =
+    let a = c .before .before .args in
+    let w = wide (c .before .before) in
+    built (moved (c .before .before)) ((a .g + 1) / 2 - 13) (c .near-root .result) (omega arith) (w .low) (w .high) (near c)
+    ∙ ap (nearestRoot binary32) (half-power (a .m) (a .g) (c .before .before .pre .2))
+
+pub of-parts-spec : {M : Type 1} → statement M
+of-parts-spec =
+    tie.close
+    (tie.spec
+    widened-requires
+    mul-near-root
+    add-near-root
+    near-root-requires
+    add-result
+    sub-result
+    mul-result
+    add-result-2
+    cast-result
+    float-from-bits-result
+    returns)

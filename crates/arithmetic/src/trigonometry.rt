@@ -1,0 +1,143 @@
+// The stand-ins for the mathematics library: series with a fixed order of operations, so that every build rounds alike.
+use crate::order::is_finite;
+use crate::order::is_negative;
+use crate::order::size;
+use crate::root::root;
+ghost use mathlib.Core.Path.{_≡_};
+ghost use lib.Ieee as Ieee;
+ghost use lib.Ieee.{binary32};
+ghost use Rattle.arithmetic.specs.Constants.{tau};
+ghost use Rattle.arithmetic.specs.Trigonometry as spec;
+
+pub const PI: f32 = 3.1415927;
+
+pub const FRAC_PI_4: f32 = 0.7853982;
+
+pub const FRAC_PI_2: f32 = 1.5707964;
+
+pub const TAU: f32 = 6.2831855;
+
+pub fn sine(a: f32) -> f32
+    ensures { λ r. ⌜ r ≡ spec.sine a ⌝ }
+{
+    let z = a * a;
+    a * (1.0 - z / 6.0 * (1.0 - z / 20.0 * (1.0 - z / 42.0 * (1.0 - z / 72.0 * (1.0 - z / 110.0)))))
+}
+
+// The remainder by TAU. Below TAU it is the number itself, and the C library's fmodf is not called.
+fn turned(r: f32) -> f32
+    ensures { λ t. ⌜ t ≡ Ieee.rem binary32 r tau ⌝ }
+{
+    if size(r) < TAU { r } else { r % TAU }
+}
+
+fn folded(t: f32) -> f32
+    ensures { λ r. ⌜ r ≡ spec.folded t ⌝ }
+{
+    if t > PI { TAU - t } else { t }
+}
+
+fn cosine_of_folded(t: f32) -> f32
+    ensures { λ r. ⌜ r ≡ spec.cosineOfFolded t ⌝ }
+{
+    let z = t * t;
+    if t <= FRAC_PI_4 {
+        1.0 - z / 2.0 * (1.0 - z / 12.0 * (1.0 - z / 30.0 * (1.0 - z / 56.0)))
+    } else {
+        sine(FRAC_PI_2 - t)
+    }
+}
+
+pub fn cosine(r: f32) -> f32
+    ensures { λ c. ⌜ c ≡ spec.cosine r ⌝ }
+{
+    if is_finite(r) {
+        cosine_of_folded(folded(size(turned(r))))
+    } else {
+        0.0 / 0.0
+    }
+}
+
+fn series(w: f32) -> f32
+    ensures { λ r. ⌜ r ≡ spec.series w ⌝ }
+{
+    let z = w * w;
+    w
+        * (1.0
+            - z
+                * (1.0 / 3.0
+                    - z
+                        * (1.0 / 5.0
+                            - z
+                                * (1.0 / 7.0
+                                    - z
+                                        * (1.0 / 9.0
+                                            - z
+                                                * (1.0 / 11.0
+                                                    - z * (1.0 / 13.0 - z * (1.0 / 15.0))))))))
+}
+
+fn part(u: f32) -> f32
+    ensures { λ r. ⌜ r ≡ spec.part u ⌝ }
+{
+    if u <= 0.41421356 {
+        series(u)
+    } else {
+        FRAC_PI_4 + series((u - 1.0) / (u + 1.0))
+    }
+}
+
+pub fn arctangent_of_size(u: f32) -> f32
+    ensures { λ r. ⌜ r ≡ spec.arctangentOfSize u ⌝ }
+{
+    if u > 1.0 {
+        FRAC_PI_2 - part(1.0 / u)
+    } else {
+        part(u)
+    }
+}
+
+pub fn arctangent(v: f32) -> f32
+    ensures { λ r. ⌜ r ≡ spec.arctangent v ⌝ }
+{
+    if (v != v) | (v == 0.0) {
+        return v;
+    }
+    let a = arctangent_of_size(size(v));
+    if v < 0.0 { -a } else { a }
+}
+
+pub fn arcsine(v: f32) -> f32
+    ensures { λ r. ⌜ r ≡ spec.arcsine v ⌝ }
+{
+    arctangent(v / root(1.0 - v * v))
+}
+
+fn quarter_turn(y: f32) -> f32
+    ensures { λ r. ⌜ r ≡ spec.quarterTurn y ⌝ }
+{
+    if y == 0.0 {
+        return y;
+    }
+    if is_negative(y) {
+        -FRAC_PI_2
+    } else {
+        FRAC_PI_2
+    }
+}
+
+pub fn arctangent2(y: f32, x: f32) -> f32
+    ensures { λ r. ⌜ r ≡ spec.arctangent2 y x ⌝ }
+{
+    if (y != y) | (x != x) {
+        return 0.0 / 0.0;
+    }
+    if x == 0.0 {
+        return quarter_turn(y);
+    }
+    let a = arctangent(y / x);
+    if x > 0.0 {
+        return a;
+    }
+    if is_negative(y) { a - PI } else { a + PI }
+}
