@@ -2,7 +2,7 @@
 ghost use mathlib.Core.Path.{_≡_};
 ghost use Prim.Native.Nat.{ℕ, _+_, _-_, _*_, _%_, _^_, _<_, _≤_};
 ghost use lib.Ieee.{binary32};
-ghost use Rattle.arithmetic.specs.Root.{Near, nearestRoot, rootOf};
+ghost use Rattle.arithmetic.specs.Root.{Near, nearestRoot, IsRoot};
 
 // a * b / 2^17, without the digits from 2^32 up.
 fn mul17(a: u64, b: u64) -> u64
@@ -191,7 +191,7 @@ fn of_parts(m: u64, g: u64) -> f32
 }
 
 pub fn root(x: f32) -> f32
-    ensures { λ r. ⌜ r ≡ rootOf binary32 x ⌝ }
+    ensures { λ r. ⌜ IsRoot x r ⌝ }
 {
     if x != x {
         return x;

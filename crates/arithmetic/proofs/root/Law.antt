@@ -14,7 +14,7 @@ use lib.Ieee.{Float, nan, inf, fin, binary32, up, down, fits}
 use lib.Ieee.Fits.{and-l, and-r, down-pos}
 use lib.Ieee.Exact.{HasValue}
 use lib.Ieee.Digits.{back}
-use Rattle.arithmetic.specs.Root.{Near, floorRoot, nearestRoot, rootOf, inUnits, positive, unsigned, NearestToRoot}
+use Rattle.arithmetic.specs.Root.{Near, floorRoot, nearestRoot, rootOf, inUnits, positive, unsigned, NearestToRoot, RootLaw, IsRoot}
 use Rattle.arithmetic.proofs.root.Squares.{Floor, floor-is, square-suc}
 use Rattle.arithmetic.proofs.root.Rounded.{root-after, root-before, root-least, value}
 use Rattle.arithmetic.proofs.root.Patterns.{same-value}
@@ -278,3 +278,16 @@ only-nearest x r h p q =
     let k = nearest-law x h p in
     let e : inUnits r ≡ inUnits t = le-antisymm (le-of-suc-le-suc (lt-of-not-le (not-less x t r k q))) (le-of-suc-le-suc (lt-of-not-le (not-less x r t q k))) in
     same-value binary32 false r t (inUnits t) (q .holds) (k .holds) (subst (λ (n : ℕ). HasValue r false n (2 ^ 149)) e (exact-value r (q .holds) (q .above-zero))) (exact-value t (k .holds) (k .above-zero))
+
+-- ---- what `root` promises, of the definition's value
+defined : (x : Float) → T (fits binary32 x) → RootLaw x (rootOf binary32 x)
+unfolding rootOf
+defined nan f = refl
+defined (inf true) f = refl
+defined (inf false) f = refl
+defined (fin s zero e) f = refl
+defined (fin true (suc m) e) f = refl
+defined (fin false (suc m) e) f = record { nearest = finite-root m e f; only = λ t q. only-nearest (fin false (suc m) e) t f (lt→ltb 0 (suc m) (zero-lt-suc m)) q }
+
+pub is-root : (x r : Float) → T (fits binary32 x) → r ≡ rootOf binary32 x → IsRoot x r
+is-root x r f h = record { is = h; law = subst (RootLaw x) (sym h) (defined x f) }
