@@ -1,8 +1,8 @@
 // The configuration: 33 numbers, numbered in the order of `validate`.
+use crate::types::Vec3;
 use arithmetic::order::is_finite;
 use arithmetic::trigonometry::FRAC_PI_2;
 use arithmetic::trigonometry::PI;
-use crate::types::Vec3;
 ghost use mathlib.Core.Path.{_≡_};
 ghost use mathlib.Core.Bool.{cond};
 ghost use Rattle.laws.specs.Config as spec;
