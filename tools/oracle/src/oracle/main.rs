@@ -1,0 +1,103 @@
+//! The oracle: the published guidance with document 01's stand-in arithmetic, and around it
+//! what document 01 adds. See tools/oracle/README.md for the commands.
+
+mod configuration;
+mod desk;
+mod flown;
+mod functions;
+mod guidance;
+mod numbers;
+mod record;
+
+use std::io::{Read, Write};
+
+use desk::{Form, Print};
+use functions::Words;
+use numbers::Random;
+
+fn input() -> Vec<u8> {
+    let mut bytes = Vec::new();
+    std::io::stdin().read_to_end(&mut bytes).expect("standard input can be read");
+    bytes
+}
+
+fn output(bytes: &[u8]) {
+    std::io::stdout().write_all(bytes).expect("standard output can be written");
+}
+
+fn print_for(options: &[String]) -> Print {
+    match options.first().map(String::as_str) {
+        None => Print::Answers,
+        Some("--state") => Print::Both,
+        Some("--state-only") => Print::State,
+        Some(other) => usage(&format!("unknown option {other}")),
+    }
+}
+
+fn number(arguments: &[String], index: usize) -> u64 {
+    match arguments.get(index).map(|text| text.parse()) {
+        Some(Ok(number)) => number,
+        _ => usage("a number is missing"),
+    }
+}
+
+fn usage(problem: &str) -> ! {
+    eprintln!("oracle: {problem}; tools/oracle/README.md lists the commands");
+    std::process::exit(2);
+}
+
+/// Lines `name word..` become `name word.. -> word..`.
+fn evaluate(text: &str) -> String {
+    let functions = functions::all();
+    let mut out = String::new();
+    for line in text.lines().filter(|line| !line.trim().is_empty()) {
+        let parts: Vec<&str> = line.split_whitespace().collect();
+        let Some(function) = functions.iter().find(|function| function.name == parts[0]) else {
+            usage(&format!("no function {}", parts[0]));
+        };
+        let words: Vec<u32> = parts[1..].iter().map(|word| u32::from_str_radix(word, 16).unwrap_or_else(|_| usage("not a word"))).collect();
+        if words.len() != function.columns.len() {
+            usage(&format!("{} takes {} words", function.name, function.columns.len()));
+        }
+        let answer = (function.run)(&mut Words::new(&words));
+        let answer: Vec<String> = answer.iter().map(|word| format!("{word:08x}")).collect();
+        out += &format!("{} -> {}\n", parts.join(" "), answer.join(" "));
+    }
+    out
+}
+
+/// Rows of a function: its input words, then its answer's words, each low byte first.
+fn rows(name: &str, seed: u64, count: u64) -> Vec<u8> {
+    let functions = functions::all();
+    let Some(function) = functions.iter().find(|function| function.name == name) else {
+        usage(&format!("no function {name}"));
+    };
+    let mut random = Random::new(seed);
+    let mut bytes = Vec::new();
+    for _ in 0..count {
+        let mut row = numbers::row(&mut random, &function.columns);
+        row.extend((function.run)(&mut Words::new(&row)));
+        bytes.extend(row.iter().flat_map(|word| word.to_le_bytes()));
+    }
+    bytes
+}
+
+fn main() {
+    let arguments: Vec<String> = std::env::args().skip(1).collect();
+    let rest = arguments.get(1..).unwrap_or(&[]);
+    match arguments.first().map(String::as_str) {
+        Some("desk") => output(desk::lines(&input(), Form::Recording, print_for(rest)).as_bytes()),
+        Some("list") => output(desk::lines(&input(), Form::List, print_for(rest)).as_bytes()),
+        Some("rewrite") => {
+            let (bytes, end) = desk::rewrite(&input());
+            output(&bytes);
+            if let Err(number) = end {
+                eprintln!("stopped {number}");
+                std::process::exit(1);
+            }
+        }
+        Some("evaluate") => output(evaluate(&String::from_utf8_lossy(&input())).as_bytes()),
+        Some("rows") if rest.len() == 3 => output(&rows(&rest[0], number(rest, 1), number(rest, 2))),
+        _ => usage("no such command"),
+    }
+}
