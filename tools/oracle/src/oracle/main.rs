@@ -5,15 +5,18 @@ mod configuration;
 mod desk;
 mod flown;
 mod functions;
+mod generate;
 mod guidance;
 mod numbers;
 mod record;
+mod tally;
 
 use std::io::{Read, Write};
 
 use desk::{Form, Print};
 use functions::Words;
 use numbers::Random;
+use tally::Tally;
 
 fn input() -> Vec<u8> {
     let mut bytes = Vec::new();
@@ -82,6 +85,54 @@ fn rows(name: &str, seed: u64, count: u64) -> Vec<u8> {
     bytes
 }
 
+/// A generated input as a recording or a list.
+fn generate(kind: &str, seed: u64, calls: u64, form: Form) -> Vec<u8> {
+    match generate::input(kind, seed, calls as usize) {
+        Some(input) => input.bytes(form),
+        None => usage(&format!("no generator {kind}")),
+    }
+}
+
+/// Counts over so many generated inputs of a kind, or of all, each with so many calls.
+fn count(kind: &str, seed: u64, inputs: u64, calls: u64) -> String {
+    let mut tally = Tally::default();
+    let kinds = if kind == "all" { generate::KINDS.to_vec() } else { vec![kind] };
+    for kind in kinds {
+        for seed in seed..seed + inputs {
+            tally.run(&generate(kind, seed, calls, Form::List), Form::List);
+        }
+    }
+    report(&tally)
+}
+
+/// Counts over files: `.list` in the name says a list, `.hex` hexadecimal text.
+fn count_files(names: &[String]) -> String {
+    let mut tally = Tally::default();
+    for name in names {
+        let form = if name.contains(".list") { Form::List } else { Form::Recording };
+        tally.run(&file_bytes(name), form);
+    }
+    report(&tally)
+}
+
+fn report(tally: &Tally) -> String {
+    tally::check_sites();
+    let missing = tally::missing().join("\n");
+    format!("{}{}\nnever taken\n{missing}\n", tally.print(), tally::print_places())
+}
+
+fn file_bytes(name: &str) -> Vec<u8> {
+    let bytes = std::fs::read(name).unwrap_or_else(|_| usage(&format!("{name} cannot be read")));
+    if !name.ends_with(".hex") {
+        return bytes;
+    }
+    let text = String::from_utf8_lossy(&bytes);
+    let digits = text.lines().map(|line| line.split('#').next().unwrap_or("")).collect::<String>();
+    let digits: Vec<u8> = digits.bytes().filter(|byte| !byte.is_ascii_whitespace()).collect();
+    let byte = |pair: &[u8]| u8::from_str_radix(&String::from_utf8_lossy(pair), 16);
+    digits.chunks(2).map(|pair| byte(pair).unwrap_or_else(|_| usage("not hexadecimal"))).collect()
+}
+
 fn main() {
     let arguments: Vec<String> = std::env::args().skip(1).collect();
     let rest = arguments.get(1..).unwrap_or(&[]);
@@ -98,6 +149,14 @@ fn main() {
         }
         Some("evaluate") => output(evaluate(&String::from_utf8_lossy(&input())).as_bytes()),
         Some("rows") if rest.len() == 3 => output(&rows(&rest[0], number(rest, 1), number(rest, 2))),
+        Some("generate") if rest.len() >= 3 => {
+            let form = if rest.get(3).is_some_and(|form| form == "list") { Form::List } else { Form::Recording };
+            output(&generate(&rest[0], number(rest, 1), number(rest, 2), form));
+        }
+        Some("count") if rest.len() == 4 => {
+            output(count(&rest[0], number(rest, 1), number(rest, 2), number(rest, 3)).as_bytes());
+        }
+        Some("count-files") => output(count_files(rest).as_bytes()),
         _ => usage("no such command"),
     }
 }

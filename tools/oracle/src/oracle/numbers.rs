@@ -84,8 +84,9 @@ pub fn wild(random: &mut Random) -> f32 {
         }
         5 => f32::from_bits(random.next() as u32),
         6 => {
-            let size = 10f32.powi(random.below(76) as i32 - 38);
-            size * random.between(-10.0, 10.0)
+            // An exponent from the least normal's to the greatest's.
+            let size = f32::from_bits((1 + random.below(254) as u32) << 23);
+            size * random.between(-2.0, 2.0)
         }
         _ => random.between(-100.0, 100.0),
     }
