@@ -58,7 +58,6 @@ pub trait Flown: Sized {
     fn set_config(&mut self, numbers: &Numbers) -> Result<(), u32>;
     fn prime(&mut self);
     fn guide_capped(&mut self, time_step: f32, regime: Regime, command: &Command) -> Setpoint;
-    fn configuration(&self) -> Numbers;
     fn state(&self) -> State;
     fn copy(&self) -> Self;
 }
@@ -70,6 +69,8 @@ pub fn validate(numbers: &Numbers) -> u32 {
 
 macro_rules! flown {
     ($name:ident, $library:ident) => {
+        // Of the three copies only the judge is asked for everything.
+        #[allow(dead_code)]
         pub mod $name {
             use super::*;
             use $library::guidance::plane::navigation::PiLoop;
@@ -268,10 +269,6 @@ macro_rules! flown {
                         }
                         _ => unreachable!("the plane guidance gives no other setpoint"),
                     }
-                }
-
-                fn configuration(&self) -> Numbers {
-                    numbers(self.0.config)
                 }
 
                 fn state(&self) -> State {

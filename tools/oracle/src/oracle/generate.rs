@@ -58,6 +58,11 @@ pub fn input(kind: &str, seed: u64, calls: usize) -> Option<Input> {
     })
 }
 
+/// So many entries for the records alone.
+pub fn records(seed: u64, count: usize) -> Vec<u8> {
+    damaged::entries(&mut Random::new(seed), count)
+}
+
 /// The fields of a call record, as words; any may stand, used by the kind or not.
 pub type Fields = [Option<u32>; NAMED_BITS as usize];
 

@@ -1,6 +1,7 @@
 //! The oracle: the published guidance with document 01's stand-in arithmetic, and around it
 //! what document 01 adds. See tools/oracle/README.md for the commands.
 
+mod codec;
 mod configuration;
 mod desk;
 mod flown;
@@ -58,7 +59,8 @@ fn evaluate(text: &str) -> String {
         let Some(function) = functions.iter().find(|function| function.name == parts[0]) else {
             usage(&format!("no function {}", parts[0]));
         };
-        let words: Vec<u32> = parts[1..].iter().map(|word| u32::from_str_radix(word, 16).unwrap_or_else(|_| usage("not a word"))).collect();
+        let word = |text: &&str| u32::from_str_radix(text, 16).unwrap_or_else(|_| usage("not a word"));
+        let words: Vec<u32> = parts[1..].iter().map(word).collect();
         if words.len() != function.columns.len() {
             usage(&format!("{} takes {} words", function.name, function.columns.len()));
         }
@@ -69,24 +71,38 @@ fn evaluate(text: &str) -> String {
     out
 }
 
-/// Rows of a function: its input words, then its answer's words, each low byte first.
+/// Rows of a function: its input words, then its answer's words, each low byte first. So many
+/// are drawn by the seed, after the corner rows of a function of one or two numbers.
 fn rows(name: &str, seed: u64, count: u64) -> Vec<u8> {
     let functions = functions::all();
     let Some(function) = functions.iter().find(|function| function.name == name) else {
         usage(&format!("no function {name}"));
     };
     let mut random = Random::new(seed);
+    let drawn = (0..count).map(|_| numbers::row(&mut random, &function.columns));
     let mut bytes = Vec::new();
-    for _ in 0..count {
-        let mut row = numbers::row(&mut random, &function.columns);
+    for mut row in numbers::corner_rows(&function.columns).into_iter().chain(drawn) {
         row.extend((function.run)(&mut Words::new(&row)));
         bytes.extend(row.iter().flat_map(|word| word.to_le_bytes()));
     }
     bytes
 }
 
+/// A line for each function: its name, its number of input words and of answer words.
+fn list_functions() -> String {
+    let line = |function: functions::Function| {
+        let inputs = vec![0; function.columns.len()];
+        let answer = (function.run)(&mut Words::new(&inputs));
+        format!("{} {} {}\n", function.name, inputs.len(), answer.len())
+    };
+    functions::all().into_iter().map(line).collect()
+}
+
 /// A generated input as a recording or a list.
 fn generate(kind: &str, seed: u64, calls: u64, form: Form) -> Vec<u8> {
+    if kind == "records" {
+        return generate::records(seed, calls as usize);
+    }
     match generate::input(kind, seed, calls as usize) {
         Some(input) => input.bytes(form),
         None => usage(&format!("no generator {kind}")),
@@ -147,7 +163,9 @@ fn main() {
                 std::process::exit(1);
             }
         }
+        Some("records") => output(codec::lines(&input()).as_bytes()),
         Some("evaluate") => output(evaluate(&String::from_utf8_lossy(&input())).as_bytes()),
+        Some("functions") => output(list_functions().as_bytes()),
         Some("rows") if rest.len() == 3 => output(&rows(&rest[0], number(rest, 1), number(rest, 2))),
         Some("generate") if rest.len() >= 3 => {
             let form = if rest.get(3).is_some_and(|form| form == "list") { Form::List } else { Form::Recording };

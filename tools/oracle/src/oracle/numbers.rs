@@ -198,3 +198,19 @@ pub fn row(random: &mut Random, columns: &str) -> Vec<u32> {
     }
     words
 }
+
+/// Rows to begin with for a function of one or two numbers: the special numbers, and for one
+/// number every threshold with its neighbours.
+pub fn corner_rows(columns: &str) -> Vec<Vec<u32>> {
+    let special = SPECIAL_BITS.map(|bits| crate::record::bits(f32::from_bits(bits)));
+    match columns.len() {
+        1 => {
+            let around = |t: f32| [t.next_down(), t, t.next_up()];
+            let signed = |t: f32| [t.to_bits(), (-t).to_bits()];
+            let thresholds = THRESHOLDS.into_iter().flat_map(around).flat_map(signed);
+            special.into_iter().chain(thresholds).map(|word| vec![word]).collect()
+        }
+        2 => special.iter().flat_map(|a| special.map(|b| vec![*a, b])).collect(),
+        _ => Vec::new(),
+    }
+}

@@ -44,6 +44,9 @@ fn damage_configuration(random: &mut Random, bytes: &mut Vec<u8>) {
 
 /// A call record with up to three faults; none now and then.
 fn damaged_call(random: &mut Random) -> Vec<u8> {
+    if random.once_in(30) {
+        return (0..1 + random.below(90)).map(|_| random.below(256) as u8).collect();
+    }
     let mut fields: Fields = first_fields(random);
     let mut map_flips = 0u32;
     let mut cut = false;
@@ -69,4 +72,35 @@ fn damaged_call(random: &mut Random) -> Vec<u8> {
         bytes.truncate(1 + random.below(longest));
     }
     bytes
+}
+
+/// Entries for the records alone, in the form that codec.rs reads.
+pub fn entries(random: &mut Random, count: usize) -> Vec<u8> {
+    let mut bytes = Vec::new();
+    for _ in 0..count {
+        let configuration = random.once_in(4);
+        let record = entry_record(random, configuration);
+        // Now and then the place to read from is at the end or past it.
+        let junk = random.below(5);
+        let beyond = if random.once_in(20) { record.len() + random.below(3) } else { 0 };
+        let (write_place, room) = (random.below(8), random.below(160));
+        let head = [configuration as usize, junk + beyond, write_place, room, junk + record.len()];
+        bytes.extend(head.map(|number| number.min(255) as u8));
+        bytes.extend((0..junk).map(|_| random.below(256) as u8));
+        bytes.extend(record);
+    }
+    bytes
+}
+
+fn entry_record(random: &mut Random, configuration: bool) -> Vec<u8> {
+    if !configuration {
+        return damaged_call(random);
+    }
+    let style = numbers::style(random);
+    let numbers = numbers::configuration(random, style);
+    let mut record = spelled(random, &numbers);
+    if random.once_in(2) {
+        damage_configuration(random, &mut record);
+    }
+    record
 }

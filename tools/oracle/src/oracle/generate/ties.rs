@@ -83,9 +83,27 @@ fn call(random: &mut Random, numbers: &Numbers) -> Fields {
         return fields;
     }
     fields[KIND as usize] = Some(3);
-    across(random, &mut fields);
+    if random.once_in(6) {
+        capture(random, &mut fields, numbers);
+    } else {
+        across(random, &mut fields);
+    }
     up_and_down(random, &mut fields, numbers);
     fields
+}
+
+/// As far off a leg as makes the capture angle's ratio 1, or its angle an eighth of a turn.
+fn capture(random: &mut Random, fields: &mut Fields, numbers: &Numbers) {
+    // The arcsine of 3f3504f3 is FRAC_PI_4.
+    const EIGHTH: f32 = f32::from_bits(0x3f35_04f3);
+    let speed = random.pick(&[8.0, 16.0, 12.0, 20.0, 2.0]);
+    let (distance, _) = stable_flight::guidance::plane::navigation::l1(speed, numbers[8], numbers[9]);
+    let off = random.pick(&[distance, distance * EIGHTH]);
+    let off = near_once(random, off) * random.pick(&[1.0, -1.0]);
+    set(fields, LEG, 1.0);
+    set(fields, LEG + 1, 0.0);
+    set(fields, POSITION + 1, off);
+    set(fields, VELOCITY, random.pick(&[speed, -speed]));
 }
 
 /// Point, leg, position and velocity.
@@ -150,7 +168,7 @@ fn up_and_down(random: &mut Random, fields: &mut Fields, numbers: &Numbers) {
     if !random.once_in(4) {
         set(fields, AIRSPEED, airspeed);
     }
-    // 1.2490457 is the bank at which the square of the cosine meets the floor 0.1.
+    // At 1.2490457 the square of the cosine passes the floor 0.1.
     let roll = random.pick(&[0.0, -0.0, 0.7853982, 1.5707964, 3.1415927, -6.2831855, 1.2490457, 7.0]);
     let roll = near(random, roll);
     set(fields, ROLL, roll);

@@ -3,7 +3,7 @@
 
 use super::{Fields, Input, Item, set, set_configuration, spelled};
 use crate::numbers::{self, Random, Style, odd, ordinary, style, wild};
-use crate::record::{self, AIRSPEED, CAP, KIND, LEG, NAMED_BITS, REGIME, TIME_STEP};
+use crate::record::{self, AIRSPEED, ALTITUDE, CAP, KIND, LEG, NAMED_BITS, REGIME, TIME_STEP};
 
 /// What the number at a bit of the call map stands for, from bit 2.
 const COLUMNS: &str = "twwwwppvvhspphvvvrsa";
@@ -14,9 +14,12 @@ fn letter(bit: u32) -> char {
 
 pub fn input(random: &mut Random, calls: usize) -> Input {
     let style = style(random);
-    let numbers = numbers::configuration(random, style);
-    let configuration = spelled(random, &numbers);
+    let mut numbers = numbers::configuration(random, style);
     let mut items = Vec::new();
+    if random.once_in(20) {
+        items = overflowing_integral(random, &mut numbers);
+    }
+    let configuration = spelled(random, &numbers);
     let mut fields = first_fields(random);
     for _ in 0..calls {
         if random.once_in(30) {
@@ -30,6 +33,25 @@ pub fn input(random: &mut Random, calls: usize) -> Input {
         }
     }
     Input { configuration, items }
+}
+
+/// A fallback whose two terms overflow against each other: a tiny error over a long step fills
+/// the altitude integral, then a great error has the other sign.
+fn overflowing_integral(random: &mut Random, numbers: &mut crate::configuration::Numbers) -> Vec<Item> {
+    numbers[11] = random.pick(&[1e20, 1e25]);
+    numbers[12] = f32::MAX;
+    numbers[13] = f32::MAX;
+    let side = random.pick(&[1.0, -1.0]);
+    let call = |time_step: f32, altitude: f32| {
+        let mut fields: Fields = [None; NAMED_BITS as usize];
+        fields[KIND as usize] = Some(3);
+        set(&mut fields, TIME_STEP, time_step);
+        set(&mut fields, ALTITUDE, altitude);
+        Item::Call(record::fields_bytes(&fields))
+    };
+    // Over a short step the integral keeps its sign, and the answer is NaN too.
+    let step = random.pick(&[1.0, 1e-30]);
+    vec![call(1e36, -side * 1e-30), call(step, side * 1e20)]
 }
 
 /// Fields to begin with; most calls are waypoints.
