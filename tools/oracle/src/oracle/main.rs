@@ -8,9 +8,11 @@ mod flown;
 mod functions;
 mod generate;
 mod guidance;
+mod limits;
 mod numbers;
 mod record;
 mod tally;
+mod trigonometry;
 
 use std::io::{Read, Write};
 
@@ -174,6 +176,8 @@ fn main() {
         Some("count") if rest.len() == 4 => {
             output(count(&rest[0], number(rest, 1), number(rest, 2), number(rest, 3)).as_bytes());
         }
+        Some("original") => output(tally::beside_original(&input()).as_bytes()),
+        Some("trigonometry") => output(trigonometry::report().as_bytes()),
         Some("count-files") => output(count_files(rest).as_bytes()),
         _ => usage("no such command"),
     }

@@ -9,7 +9,8 @@ use crate::configuration::Numbers;
 use crate::desk::{Form, answer_text, state_text};
 use crate::flown::{Flown, Setpoint, State, counted, judge, original, validate};
 use crate::guidance::{self, Answer, Vertical};
-use crate::record::{self, Call, Command, Waypoint, bits};
+use crate::limits;
+use crate::record::{self, Call, Command, Regime, Waypoint, bits};
 
 #[derive(Default)]
 pub struct Tally {
@@ -82,6 +83,10 @@ impl Tally {
         let counting = guidance::call(&mut pair.counted, call);
         assert_eq!(answer.as_ref().map(answer_text), counting.as_ref().map(answer_text));
         assert_eq!(state_text(&pair.judge.state()), state_text(&pair.counted.state()));
+        if let (Ok(Answer::Waypoint(_, _, numbers)), Call::Guide { command: Command::Waypoint(w), .. }) = (&answer, call) {
+            let broken = limits::broken(&pair.numbers, w, *numbers, &pair.judge.state());
+            assert_eq!(broken, None, "{call:?} from {before:?}");
+        }
         self.describe(call, &before, &answer);
         self.compare_original(pair, call, &before, &answer);
     }
@@ -145,12 +150,7 @@ impl Tally {
             return;
         };
         // A refused call leaves the configuration, so this one is in force.
-        let mut plane = original::Plane::with(&pair.numbers, before);
-        let flown = quietly(|| {
-            let setpoint = plane.guide_capped(*time_step, *regime, command);
-            (setpoint, plane.state())
-        });
-        let name = match (answer, flown) {
+        let name = match (answer, original_step(&pair.numbers, before, *regime, *time_step, command)) {
             (Err(number), Err(place)) => format!("refused {number}, the Rust panics: {place}"),
             (Err(number), Ok((setpoint, state))) => {
                 let sound = all_finite(&setpoint, &state);
@@ -177,6 +177,54 @@ impl Tally {
         }
         out
     }
+}
+
+/// The Rust with f32's own min, max and clamp, from a state: its setpoint and state, or its panic.
+fn original_step(
+    numbers: &Numbers,
+    before: &State,
+    regime: Regime,
+    time_step: f32,
+    command: &Command,
+) -> Result<(Setpoint, State), &'static str> {
+    let mut plane = original::Plane::with(numbers, before);
+    quietly(|| {
+        let setpoint = plane.guide_capped(time_step, regime, command);
+        (setpoint, plane.state())
+    })
+}
+
+/// For each guide call of a recording, from the oracle's state: its answer, and the Rust's.
+pub fn beside_original(input: &[u8]) -> String {
+    let Ok((numbers, mut place)) = record::read_configuration(input, 0) else {
+        return "config stopped\n".to_string();
+    };
+    let mut plane = judge::Plane::new(&numbers);
+    let mut out = String::new();
+    while let Ok((call, next)) = record::read_call(input, place) {
+        place = next;
+        let before = plane.state();
+        let answer = match guidance::call(&mut plane, &call) {
+            Ok(answer) => answer_text(&answer),
+            Err(number) => format!("refused {number}"),
+        };
+        out += &format!("{answer}\n  {}\n", state_text(&plane.state()));
+        let Call::Guide { regime, time_step, command } = call else {
+            continue;
+        };
+        out += &match original_step(&numbers, &before, regime, time_step, &command) {
+            Ok((setpoint, state)) => format!("  the Rust: {}\n  {}\n", setpoint_text(&setpoint), state_text(&state)),
+            Err(panic) => format!("  the Rust panics: {panic}\n"),
+        };
+    }
+    out
+}
+
+fn setpoint_text(setpoint: &Setpoint) -> String {
+    answer_text(&match setpoint {
+        Setpoint::Plane(numbers) => Answer::Plane(*numbers),
+        Setpoint::Rate(numbers) => Answer::Rate(*numbers),
+    })
 }
 
 /// Runs what may panic without its message, and says which of the Rust's panics it was.
