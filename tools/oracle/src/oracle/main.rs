@@ -84,6 +84,7 @@ fn rows(name: &str, seed: u64, count: u64) -> Vec<u8> {
     let drawn = (0..count).map(|_| numbers::row(&mut random, &function.columns));
     let mut bytes = Vec::new();
     for mut row in numbers::corner_rows(&function.columns).into_iter().chain(drawn) {
+        function.settle(&mut row);
         row.extend((function.run)(&mut Words::new(&row)));
         bytes.extend(row.iter().flat_map(|word| word.to_le_bytes()));
     }
