@@ -184,9 +184,7 @@ fn helpers() -> Vec<Function> {
         function("saturate_throttle", "w", |w| one(math::saturate_throttle(w.number()))),
         function("limit_or_zero", "w", |w| one(math::limit_or_zero(w.number()))),
         function("clamp_symmetric", "wc", |w| one(math::clamp_symmetric(w.number(), w.number()))),
-        function("lagged", "hhtT", |w| {
-            one(math::lagged(w.number(), w.number(), w.number(), w.number()))
-        }),
+        function("lagged", "hhtT", |w| one(math::lagged(w.number(), w.number(), w.number(), w.number()))),
     ]
 }
 

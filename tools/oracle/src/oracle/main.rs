@@ -10,6 +10,8 @@ mod generate;
 mod guidance;
 mod limits;
 mod numbers;
+mod original;
+mod places;
 mod record;
 mod tally;
 mod trigonometry;
@@ -135,9 +137,9 @@ fn count_files(names: &[String]) -> String {
 }
 
 fn report(tally: &Tally) -> String {
-    tally::check_sites();
-    let missing = tally::missing().join("\n");
-    format!("{}{}\nnever taken\n{missing}\n", tally.print(), tally::print_places())
+    places::check();
+    let missing = places::missing().join("\n");
+    format!("{}{}\nnever taken\n{missing}\n", tally.print(), places::print())
 }
 
 fn file_bytes(name: &str) -> Vec<u8> {
@@ -177,7 +179,7 @@ fn main() {
         Some("count") if rest.len() == 4 => {
             output(count(&rest[0], number(rest, 1), number(rest, 2), number(rest, 3)).as_bytes());
         }
-        Some("original") => output(tally::beside_original(&input()).as_bytes()),
+        Some("original") => output(original::beside(&input()).as_bytes()),
         Some("trigonometry") => output(trigonometry::report().as_bytes()),
         Some("count-files") => output(count_files(rest).as_bytes()),
         _ => usage("no such command"),
