@@ -112,11 +112,7 @@ pub fn normalise(x: f32, y: f32, floor: f32) -> Option<(f32, f32)> {
     let length = length(x, y);
     #[cfg(counted)]
     reach::order(length, floor);
-    if length <= floor {
-        None
-    } else {
-        Some((x / length, y / length))
-    }
+    if length <= floor { None } else { Some((x / length, y / length)) }
 }
 
 pub fn sine(a: f32) -> f32 {
@@ -157,11 +153,7 @@ fn series(w: f32) -> f32 {
 }
 
 fn part(u: f32) -> f32 {
-    if is!(u <= 0.41421356) {
-        series(u)
-    } else {
-        FRAC_PI_4 + series((u - 1.0) / (u + 1.0))
-    }
+    if is!(u <= 0.41421356) { series(u) } else { FRAC_PI_4 + series((u - 1.0) / (u + 1.0)) }
 }
 
 pub fn arctangent(v: f32) -> f32 {
@@ -169,11 +161,7 @@ pub fn arctangent(v: f32) -> f32 {
         return v;
     }
     let u = v.abs();
-    let a = if is!(u > 1.0) {
-        FRAC_PI_2 - part(1.0 / u)
-    } else {
-        part(u)
-    };
+    let a = if is!(u > 1.0) { FRAC_PI_2 - part(1.0 / u) } else { part(u) };
     if is!(v < 0.0) { -a } else { a }
 }
 
@@ -195,9 +183,5 @@ pub fn arctangent_of(y: f32, x: f32) -> f32 {
         let a = arctangent(y / x);
         return if is!(y.is_sign_negative()) { a - PI } else { a + PI };
     }
-    if is!(y == 0.0) {
-        y
-    } else {
-        FRAC_PI_2.copysign(y)
-    }
+    if is!(y == 0.0) { y } else { FRAC_PI_2.copysign(y) }
 }

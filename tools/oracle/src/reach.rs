@@ -59,38 +59,42 @@ pub fn at_least(a: f32, b: f32) -> bool {
 
 #[track_caller]
 pub fn pair(a: f32, b: f32) {
-    note(PAIR[if a.is_nan() {
-        4
-    } else if b.is_nan() {
-        5
-    } else if a < b {
-        0
-    } else if a > b {
-        3
-    } else if a.to_bits() != b.to_bits() {
-        2
-    } else {
-        1
-    }]);
+    note(
+        PAIR[if a.is_nan() {
+            4
+        } else if b.is_nan() {
+            5
+        } else if a < b {
+            0
+        } else if a > b {
+            3
+        } else if a.to_bits() != b.to_bits() {
+            2
+        } else {
+            1
+        }],
+    );
 }
 
 #[track_caller]
 pub fn clamp(v: f32, low: f32, high: f32) {
-    note(CLAMP[if v.is_nan() {
-        5
-    } else if low.is_nan() || high.is_nan() {
-        6
-    } else if v < low {
-        0
-    } else if v == low {
-        1
-    } else if v > high {
-        4
-    } else if v == high {
-        3
-    } else {
-        2
-    }]);
+    note(
+        CLAMP[if v.is_nan() {
+            5
+        } else if low.is_nan() || high.is_nan() {
+            6
+        } else if v < low {
+            0
+        } else if v == low {
+            1
+        } else if v > high {
+            4
+        } else if v == high {
+            3
+        } else {
+            2
+        }],
+    );
 }
 
 /// Every place that was reached: (file, line, column, outcome) and how often.
@@ -105,9 +109,4 @@ pub fn counts() -> HashMap<(String, u32, u32, &'static str), u64> {
         }
     });
     by_place
-}
-
-/// Forgets what was counted so far.
-pub fn clear() {
-    COUNTS.with(|counts| counts.borrow_mut().clear());
 }

@@ -77,9 +77,8 @@ macro_rules! flown {
             use $library::guidance::plane::tecs::{Demand, Tecs};
             use $library::guidance::plane::{PlaneGuidance, PlaneGuidanceConfig};
             use $library::{
-                AbsoluteAttitudeCommand, AbsoluteRateCommand, AttitudeCommand, Configurable,
-                ControlInput, FlightRegime, Guidance, LandCommand, RateCommand, Vec2, Vec3,
-                VehicleState, WaypointCommand,
+                AbsoluteAttitudeCommand, AbsoluteRateCommand, AttitudeCommand, Configurable, ControlInput,
+                FlightRegime, Guidance, LandCommand, RateCommand, Vec2, Vec3, VehicleState, WaypointCommand,
             };
 
             pub struct Plane(pub PlaneGuidance);
@@ -171,12 +170,7 @@ macro_rules! flown {
                     }
                     Command::Land => ControlInput::Land(LandCommand::default()),
                     Command::AbsoluteRate([roll_radps, pitch_radps, yaw_radps, thrust]) => {
-                        ControlInput::AbsoluteRate(AbsoluteRateCommand {
-                            roll_radps,
-                            pitch_radps,
-                            yaw_radps,
-                            thrust,
-                        })
+                        ControlInput::AbsoluteRate(AbsoluteRateCommand { roll_radps, pitch_radps, yaw_radps, thrust })
                     }
                 }
             }
@@ -211,11 +205,8 @@ macro_rules! flown {
             }
 
             pub fn tecs(e: &EnergyState) -> Tecs {
-                let demand = Demand {
-                    slewed_height_m: e.slewed_height,
-                    height_m: e.height,
-                    airspeed_mps: e.airspeed_demand,
-                };
+                let demand =
+                    Demand { slewed_height_m: e.slewed_height, height_m: e.height, airspeed_mps: e.airspeed_demand };
                 let mut tecs = Tecs::default();
                 tecs.demand = e.seeded.then_some(demand);
                 tecs.filtered_airspeed_mps = e.seeded.then_some(e.filtered_airspeed);
@@ -276,11 +267,7 @@ macro_rules! flown {
                         FlightRegime::Copter => Regime::Copter,
                         _ => Regime::Plane,
                     };
-                    State {
-                        requested,
-                        altitude_integral: self.0.altitude.integral,
-                        energy: energy_state(&self.0.tecs),
-                    }
+                    State { requested, altitude_integral: self.0.altitude.integral, energy: energy_state(&self.0.tecs) }
                 }
 
                 fn copy(&self) -> Self {

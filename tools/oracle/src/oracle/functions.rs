@@ -18,6 +18,18 @@ pub struct Function {
     pub run: fn(&mut Words) -> Vec<u32>,
 }
 
+impl Function {
+    /// An energy state that is not seeded has no numbers for demands and filters: +0 each.
+    pub fn settle(&self, row: &mut [u32]) {
+        if self.columns.ends_with(ENERGY_STATE_COLUMNS) {
+            let state = row.len() - ENERGY_STATE_COLUMNS.len();
+            if row[state] == 0 {
+                row[state + 1..state + 6].fill(0);
+            }
+        }
+    }
+}
+
 /// The input words, taken in order.
 pub struct Words<'a>(std::slice::Iter<'a, u32>);
 
@@ -172,9 +184,7 @@ fn helpers() -> Vec<Function> {
         function("saturate_throttle", "w", |w| one(math::saturate_throttle(w.number()))),
         function("limit_or_zero", "w", |w| one(math::limit_or_zero(w.number()))),
         function("clamp_symmetric", "wc", |w| one(math::clamp_symmetric(w.number(), w.number()))),
-        function("lagged", "hhtT", |w| {
-            one(math::lagged(w.number(), w.number(), w.number(), w.number()))
-        }),
+        function("lagged", "hhtT", |w| one(math::lagged(w.number(), w.number(), w.number(), w.number()))),
     ]
 }
 

@@ -89,9 +89,7 @@ pub fn call<F: Flown>(guidance: &mut F, call: &Call) -> Result<Answer, u32> {
 
 fn named(command: &Command, setpoint: Setpoint) -> Answer {
     match (command, setpoint) {
-        (Command::Waypoint(w), Setpoint::Plane(numbers)) => {
-            Answer::Waypoint(lateral(w), vertical(w), numbers)
-        }
+        (Command::Waypoint(w), Setpoint::Plane(numbers)) => Answer::Waypoint(lateral(w), vertical(w), numbers),
         (_, Setpoint::Plane(numbers)) => Answer::Plane(numbers),
         (_, Setpoint::Rate(numbers)) => Answer::Rate(numbers),
     }

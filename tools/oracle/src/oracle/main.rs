@@ -10,6 +10,8 @@ mod generate;
 mod guidance;
 mod limits;
 mod numbers;
+mod original;
+mod places;
 mod record;
 mod tally;
 mod trigonometry;
@@ -84,6 +86,7 @@ fn rows(name: &str, seed: u64, count: u64) -> Vec<u8> {
     let drawn = (0..count).map(|_| numbers::row(&mut random, &function.columns));
     let mut bytes = Vec::new();
     for mut row in numbers::corner_rows(&function.columns).into_iter().chain(drawn) {
+        function.settle(&mut row);
         row.extend((function.run)(&mut Words::new(&row)));
         bytes.extend(row.iter().flat_map(|word| word.to_le_bytes()));
     }
@@ -134,9 +137,9 @@ fn count_files(names: &[String]) -> String {
 }
 
 fn report(tally: &Tally) -> String {
-    tally::check_sites();
-    let missing = tally::missing().join("\n");
-    format!("{}{}\nnever taken\n{missing}\n", tally.print(), tally::print_places())
+    places::check();
+    let missing = places::missing().join("\n");
+    format!("{}{}\nnever taken\n{missing}\n", tally.print(), places::print())
 }
 
 fn file_bytes(name: &str) -> Vec<u8> {
@@ -176,7 +179,7 @@ fn main() {
         Some("count") if rest.len() == 4 => {
             output(count(&rest[0], number(rest, 1), number(rest, 2), number(rest, 3)).as_bytes());
         }
-        Some("original") => output(tally::beside_original(&input()).as_bytes()),
+        Some("original") => output(original::beside(&input()).as_bytes()),
         Some("trigonometry") => output(trigonometry::report().as_bytes()),
         Some("count-files") => output(count_files(rest).as_bytes()),
         _ => usage("no such command"),

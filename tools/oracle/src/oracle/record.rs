@@ -219,11 +219,23 @@ fn written_fields(call: &Call) -> Fields {
         }
     };
     let kind = match command {
-        Command::Attitude(three) => (row(COMMAND, three), 1).1,
-        Command::Rate(four) => (row(COMMAND, four), 2).1,
-        Command::AbsoluteAttitude(three) => (row(COMMAND, three), 4).1,
+        Command::Attitude(three) => {
+            row(COMMAND, three);
+            1
+        }
+        Command::Rate(four) => {
+            row(COMMAND, four);
+            2
+        }
+        Command::AbsoluteAttitude(three) => {
+            row(COMMAND, three);
+            4
+        }
         Command::Land => 5,
-        Command::AbsoluteRate(four) => (row(COMMAND, four), 6).1,
+        Command::AbsoluteRate(four) => {
+            row(COMMAND, four);
+            6
+        }
         Command::Waypoint(w) => {
             row(POINT, &w.point);
             row(ALTITUDE, &[w.altitude, w.cruise_speed]);

@@ -1,16 +1,15 @@
 //! Runs inputs through the three copies of the guidance and counts: which calls were met, which
 //! way each condition went, and where the Rust with f32's own min, max and clamp differs.
 
-use std::any::Any;
-use std::collections::{BTreeMap, HashMap};
-use std::panic::{AssertUnwindSafe, catch_unwind, set_hook, take_hook};
+use std::collections::BTreeMap;
 
 use crate::configuration::Numbers;
 use crate::desk::{Form, answer_text, state_text};
-use crate::flown::{Flown, Setpoint, State, counted, judge, original, validate};
+use crate::flown::{Flown, State, counted, judge, validate};
 use crate::guidance::{self, Answer, Vertical};
 use crate::limits;
-use crate::record::{self, Call, Command, Regime, Waypoint, bits};
+use crate::original;
+use crate::record::{self, Call, Command, Waypoint, bits};
 
 #[derive(Default)]
 pub struct Tally {
@@ -40,11 +39,7 @@ impl Tally {
             return self.add("configurations", format!("refused, field {field:2}"));
         }
         self.add("configurations", "taken");
-        let mut pair = Pair {
-            numbers,
-            judge: judge::Plane::new(&numbers),
-            counted: counted::Plane::new(&numbers),
-        };
+        let mut pair = Pair { numbers, judge: judge::Plane::new(&numbers), counted: counted::Plane::new(&numbers) };
         while place < input.len() {
             match self.step(&mut pair, input, place, form) {
                 Ok(next) => place = next,
@@ -83,7 +78,9 @@ impl Tally {
         let counting = guidance::call(&mut pair.counted, call);
         assert_eq!(answer.as_ref().map(answer_text), counting.as_ref().map(answer_text));
         assert_eq!(state_text(&pair.judge.state()), state_text(&pair.counted.state()));
-        if let (Ok(Answer::Waypoint(_, _, numbers)), Call::Guide { command: Command::Waypoint(w), .. }) = (&answer, call) {
+        if let (Ok(Answer::Waypoint(_, _, numbers)), Call::Guide { command: Command::Waypoint(w), .. }) =
+            (&answer, call)
+        {
             let broken = limits::broken(&pair.numbers, w, *numbers, &pair.judge.state());
             assert_eq!(broken, None, "{call:?} from {before:?}");
         }
@@ -150,16 +147,16 @@ impl Tally {
             return;
         };
         // A refused call leaves the configuration, so this one is in force.
-        let name = match (answer, original_step(&pair.numbers, before, *regime, *time_step, command)) {
+        let name = match (answer, original::step(&pair.numbers, before, *regime, *time_step, command)) {
             (Err(number), Err(place)) => format!("refused {number}, the Rust panics: {place}"),
             (Err(number), Ok((setpoint, state))) => {
-                let sound = all_finite(&setpoint, &state);
+                let sound = original::all_finite(&setpoint, &state);
                 let what = if sound { "answers and stores finite numbers" } else { "answers or stores one not finite" };
                 format!("refused {number}, the Rust {what}")
             }
             (Ok(_), Err(_)) => "accepted, the Rust panics".to_string(),
             (Ok(answer), Ok((setpoint, state))) => {
-                format!("accepted, {}", difference(answer, &pair.judge.state(), &setpoint, &state))
+                format!("accepted, {}", original::difference(answer, &pair.judge.state(), &setpoint, &state))
             }
         };
         self.add("beside the Rust's own min, max and clamp", name);
@@ -176,80 +173,6 @@ impl Tally {
             out += &format!("{count:>12}  {name}\n");
         }
         out
-    }
-}
-
-/// The Rust with f32's own min, max and clamp, from a state: its setpoint and state, or its panic.
-fn original_step(
-    numbers: &Numbers,
-    before: &State,
-    regime: Regime,
-    time_step: f32,
-    command: &Command,
-) -> Result<(Setpoint, State), &'static str> {
-    let mut plane = original::Plane::with(numbers, before);
-    quietly(|| {
-        let setpoint = plane.guide_capped(time_step, regime, command);
-        (setpoint, plane.state())
-    })
-}
-
-/// For each guide call of a recording, from the oracle's state: its answer, and the Rust's.
-pub fn beside_original(input: &[u8]) -> String {
-    let Ok((numbers, mut place)) = record::read_configuration(input, 0) else {
-        return "config stopped\n".to_string();
-    };
-    let mut plane = judge::Plane::new(&numbers);
-    let mut out = String::new();
-    while let Ok((call, next)) = record::read_call(input, place) {
-        place = next;
-        let before = plane.state();
-        let answer = match guidance::call(&mut plane, &call) {
-            Ok(answer) => answer_text(&answer),
-            Err(number) => format!("refused {number}"),
-        };
-        out += &format!("{answer}\n  {}\n", state_text(&plane.state()));
-        let Call::Guide { regime, time_step, command } = call else {
-            continue;
-        };
-        out += &match original_step(&numbers, &before, regime, time_step, &command) {
-            Ok((setpoint, state)) => format!("  the Rust: {}\n  {}\n", setpoint_text(&setpoint), state_text(&state)),
-            Err(panic) => format!("  the Rust panics: {panic}\n"),
-        };
-    }
-    out
-}
-
-fn setpoint_text(setpoint: &Setpoint) -> String {
-    answer_text(&match setpoint {
-        Setpoint::Plane(numbers) => Answer::Plane(*numbers),
-        Setpoint::Rate(numbers) => Answer::Rate(*numbers),
-    })
-}
-
-/// Runs what may panic without its message, and says which of the Rust's panics it was.
-fn quietly<T>(run: impl FnOnce() -> T) -> Result<T, &'static str> {
-    let hook = take_hook();
-    set_hook(Box::new(|_| {}));
-    let result = catch_unwind(AssertUnwindSafe(run));
-    set_hook(hook);
-    result.map_err(panic_name)
-}
-
-fn panic_name(panic: Box<dyn Any + Send>) -> &'static str {
-    let text = match (panic.downcast_ref::<String>(), panic.downcast_ref::<&str>()) {
-        (Some(text), _) => text.as_str(),
-        (_, Some(text)) => text,
-        _ => "",
-    };
-    if text.starts_with("dt must be") {
-        "the time step is asserted"
-    } else if text.contains("min = NaN") {
-        "a clamp with NaN bounds"
-    } else if text.contains("min > max") {
-        "a clamp with crossed bounds"
-    } else {
-        "elsewhere"
     }
 }
 
@@ -299,112 +222,4 @@ fn hold_reasons(w: &Waypoint) -> [(&'static str, f32); 5] {
         ("height", w.position[2]),
         ("climb", w.velocity[2]),
     ]
-}
-
-fn all_finite(setpoint: &Setpoint, state: &State) -> bool {
-    let answered = match setpoint {
-        Setpoint::Plane([_, pitch, thrust]) => pitch.is_finite() && thrust.is_finite(),
-        Setpoint::Rate(_) => true,
-    };
-    answered && state.numbers().iter().all(|number| number.is_finite())
-}
-
-/// How an accepted answer and the state after it differ from the Rust's.
-fn difference(answer: &Answer, state: &State, setpoint: &Setpoint, theirs: &State) -> &'static str {
-    let ours: Vec<f32> = match answer {
-        Answer::Plane(numbers) | Answer::Waypoint(_, _, numbers) => numbers.to_vec(),
-        Answer::Rate(numbers) => numbers.to_vec(),
-        Answer::Primed => Vec::new(),
-    };
-    let rust: Vec<f32> = match setpoint {
-        Setpoint::Plane(numbers) => numbers.to_vec(),
-        Setpoint::Rate(numbers) => numbers.to_vec(),
-    };
-    let ours = ours.into_iter().chain(state.numbers());
-    let rust = rust.into_iter().chain(theirs.numbers());
-    let differing: Vec<(f32, f32)> = ours.zip(rust).filter(|(a, b)| bits(*a) != bits(*b)).collect();
-    if state.energy.underspeed != theirs.energy.underspeed || state.energy.seeded != theirs.energy.seeded {
-        "another flag"
-    } else if differing.is_empty() {
-        "equal bit for bit"
-    } else if differing.iter().all(|(a, b)| *a == 0.0 && *b == 0.0) {
-        "differs in the sign of a zero"
-    } else {
-        "differs"
-    }
-}
-
-/// A place that counts, as the build lists them.
-struct Site {
-    label: String,
-    file: String,
-    line: u32,
-    column: u32,
-    outcomes: &'static [&'static str],
-    text: String,
-}
-
-fn sites() -> Vec<Site> {
-    let path = std::env::current_exe().expect("a program has a path").with_file_name("sites.txt");
-    let text = std::fs::read_to_string(path).expect("the build puts sites.txt beside the program");
-    let mut sites: Vec<Site> = Vec::new();
-    let mut on_line: HashMap<String, u32> = HashMap::new();
-    for row in text.lines() {
-        let parts: Vec<&str> = row.split('\t').collect();
-        let name = parts[0].rsplit('/').next().unwrap_or(parts[0]);
-        let nth = on_line.entry(format!("{name}:{}", parts[1])).or_insert(0);
-        *nth += 1;
-        sites.push(Site {
-            label: format!("{name}:{}.{nth}", parts[1]),
-            file: parts[0].to_string(),
-            line: parts[1].parse().expect("a line number"),
-            column: parts[2].parse().expect("a column"),
-            outcomes: match parts[3] {
-                "truth" => reach::TRUTH,
-                "order" => reach::ORDER,
-                "pair" => reach::PAIR,
-                _ => reach::CLAMP,
-            },
-            text: parts[4].to_string(),
-        });
-    }
-    sites
-}
-
-/// The places with how often each way was taken.
-pub fn print_places() -> String {
-    let counts = reach::counts();
-    let mut out = "\nplaces\n".to_string();
-    for site in sites() {
-        let ways = site.outcomes.iter().map(|&outcome| {
-            let key = (site.file.clone(), site.line, site.column, outcome);
-            format!("{outcome} {}", counts.get(&key).unwrap_or(&0))
-        });
-        let ways: Vec<String> = ways.collect();
-        out += &format!("{}  `{}`\n    {}\n", site.label, site.text, ways.join(", "));
-    }
-    out
-}
-
-/// The ways that were never taken, as `label outcome`.
-pub fn missing() -> Vec<String> {
-    let counts = reach::counts();
-    let mut missing = Vec::new();
-    for site in sites() {
-        for &outcome in site.outcomes {
-            if !counts.contains_key(&(site.file.clone(), site.line, site.column, outcome)) {
-                missing.push(format!("{} {}", site.label, outcome.replace(' ', "-")));
-            }
-        }
-    }
-    missing
-}
-
-/// Counts at places that the build did not list would be lost: there are none.
-pub fn check_sites() {
-    let listed: Vec<(String, u32, u32)> = sites().into_iter().map(|s| (s.file, s.line, s.column)).collect();
-    for (file, line, column, _) in reach::counts().into_keys() {
-        let place = (file, line, column);
-        assert!(listed.contains(&place), "{place:?} counts but is not in sites.txt");
-    }
 }

@@ -129,11 +129,8 @@ impl Route {
 
 pub fn input(random: &mut Random, calls: usize) -> Input {
     let style = random.pick(&[Style::Ordinary, Style::Ordinary, Style::Spotted]);
-    let numbers = if random.once_in(2) {
-        crate::configuration::default()
-    } else {
-        numbers::configuration(random, style)
-    };
+    let numbers =
+        if random.once_in(2) { crate::configuration::default() } else { numbers::configuration(random, style) };
     let mut flight = Flight {
         guidance: Plane::new(&numbers),
         craft: Craft::new(random),
