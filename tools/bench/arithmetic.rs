@@ -1,5 +1,5 @@
 //! Nanoseconds per call of the crate `arithmetic`, linked from its static library, beside the same functions in Rust.
-//! Both are called, never inlined. Each figure is the best of many passes over the same arguments, the two sides by turns.
+//! Both are called, not inlined, but for the processor's root, which is an instruction in line. Each figure is the best of many passes over the same arguments, the two sides by turns.
 use std::hint::black_box;
 use std::time::Instant;
 
@@ -12,11 +12,6 @@ unsafe extern "C" {
     safe fn arithmetic_sine(a: f32) -> f32;
     safe fn arithmetic_cosine(r: f32) -> f32;
     safe fn arithmetic_arctangent2(y: f32, x: f32) -> f32;
-}
-
-#[inline(never)]
-extern "C" fn root(x: f32) -> f32 {
-    x.sqrt()
 }
 
 #[inline(never)]
@@ -74,7 +69,7 @@ fn main() {
     let (x, y) = (spread(1, 0.001, 1000.0), spread(2, -0.8, 0.8));
     let (r, north, east) = (spread(3, -3.0, 3.0), spread(4, -500.0, 500.0), spread(5, -500.0, 500.0));
     let good = [
-        compare("root", 8.0, |i| arithmetic_root(x[i]), |i| root(x[i])),
+        compare("root", 8.0, |i| arithmetic_root(x[i]), |i| x[i].sqrt()),
         compare("sine", 1.1, |i| arithmetic_sine(y[i]), |i| sine(y[i])),
         compare("cosine", 1.1, |i| arithmetic_cosine(r[i]), |i| cosine(r[i])),
         compare("arctangent2", 1.1, |i| arithmetic_arctangent2(east[i], north[i]), |i| arctangent2(east[i], north[i])),
