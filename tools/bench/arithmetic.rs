@@ -1,5 +1,6 @@
 //! Nanoseconds per call of the crate `arithmetic`, linked from its static library, beside the same functions in Rust.
-//! Both are called, not inlined, but for the processor's root, which is an instruction in line. Each figure is the best of many passes over the same arguments, the two sides by turns.
+//! Both are called, not inlined, but for the processor's root, which is an instruction in line. Each figure is the best of
+//! many passes over the same arguments, the two sides by turns.
 use std::hint::black_box;
 use std::time::Instant;
 
