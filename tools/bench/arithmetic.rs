@@ -66,7 +66,25 @@ fn compare(name: &str, most: f64, ours: impl Fn(usize) -> f32, theirs: impl Fn(u
     a <= most * b
 }
 
+/// Compares on every f32, as bits, every NaN alike.
+fn everywhere(name: &str, ours: impl Fn(f32) -> f32, theirs: impl Fn(f32) -> f32) {
+    let differ = (0..=u32::MAX)
+        .filter(|&bits| {
+            let (a, b) = (ours(f32::from_bits(bits)), theirs(f32::from_bits(bits)));
+            a.to_bits() != b.to_bits() && !(a.is_nan() && b.is_nan())
+        })
+        .count();
+    println!("{name}: {differ} of 4294967296 numbers differ");
+    assert_eq!(differ, 0);
+}
+
 fn main() {
+    if std::env::args().nth(1).as_deref() == Some("all") {
+        everywhere("root", |x| arithmetic_root(x), f32::sqrt);
+        everywhere("sine", |x| arithmetic_sine(x), rust::sine);
+        everywhere("cosine", |x| arithmetic_cosine(x), rust::cosine);
+        return;
+    }
     let (x, y) = (spread(1, 0.001, 1000.0), spread(2, -0.8, 0.8));
     let (r, north, east) = (spread(3, -3.0, 3.0), spread(4, -500.0, 500.0), spread(5, -500.0, 500.0));
     let good = [
