@@ -20,14 +20,17 @@ def oracle_command(mode):
     return [str(ORACLE), mode]
 
 
+def own_desk_command():
+    if not DESK.is_file():
+        raise Missing("target/bin/desk is not built")
+    return [str(DESK)]
+
+
 def desk_command():
     """The desk program, or the oracle in its place."""
-    if DESK.is_file():
-        return [str(DESK)]
-    try:
-        return oracle_command("desk")
-    except Missing:
-        raise Missing("neither target/bin/desk nor target/oracle/oracle is built") from None
+    if not DESK.is_file() and not ORACLE.is_file():
+        raise Missing("neither target/bin/desk nor target/oracle/oracle is built")
+    return own_desk_command() if DESK.is_file() else oracle_command("desk")
 
 
 def run(command, data):
