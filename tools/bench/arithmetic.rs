@@ -66,23 +66,25 @@ fn compare(name: &str, most: f64, ours: impl Fn(usize) -> f32, theirs: impl Fn(u
     a <= most * b
 }
 
-/// Compares on every f32, as bits, every NaN alike.
-fn everywhere(name: &str, ours: impl Fn(f32) -> f32, theirs: impl Fn(f32) -> f32) {
-    let differ = (0..=u32::MAX)
-        .filter(|&bits| {
-            let (a, b) = (ours(f32::from_bits(bits)), theirs(f32::from_bits(bits)));
-            a.to_bits() != b.to_bits() && !(a.is_nan() && b.is_nan())
-        })
-        .count();
-    println!("{name}: {differ} of 4294967296 numbers differ");
+/// Compares on every f32 whose bits are up to these but for the sign, as bits, every NaN alike.
+fn everywhere(name: &str, top: u32, ours: impl Fn(f32) -> f32, theirs: impl Fn(f32) -> f32) {
+    let mut differ = 0;
+    for bits in (0..=top).chain(1 << 31..=1 << 31 | top) {
+        let (a, b) = (ours(f32::from_bits(bits)), theirs(f32::from_bits(bits)));
+        if a.to_bits() != b.to_bits() && !(a.is_nan() && b.is_nan()) {
+            differ += 1;
+        }
+    }
+    println!("{name}: {differ} of {} numbers differ", 2 * (top as u64 + 1));
     assert_eq!(differ, 0);
 }
 
 fn main() {
     if std::env::args().nth(1).as_deref() == Some("all") {
-        everywhere("root", |x| arithmetic_root(x), f32::sqrt);
-        everywhere("sine", |x| arithmetic_sine(x), rust::sine);
-        everywhere("cosine", |x| arithmetic_cosine(x), rust::cosine);
+        everywhere("root", 0x7fff_ffff, |x| arithmetic_root(x), f32::sqrt);
+        everywhere("sine", 0x7fff_ffff, |x| arithmetic_sine(x), rust::sine);
+        // up to 1,024: a remainder of larger numbers takes long, and is the C library's on both sides
+        everywhere("cosine", 0x4480_0000, |x| arithmetic_cosine(x), rust::cosine);
         return;
     }
     let (x, y) = (spread(1, 0.001, 1000.0), spread(2, -0.8, 0.8));
