@@ -351,7 +351,7 @@ def draw_limits(page, flown, bounds, scale, time, unit):
     for side in (0, 1):
         pairs = [(time(m.time), scale(b[side])) for m, b in zip(flown, bounds)]
         path(page, "limit", stairs(pairs, STRIPS_RIGHT))
-        text = f"{bounds[-1][side]:.0f}{unit}" if unit else f"{bounds[-1][side]:g}"
+        text = f"{bounds[-1][side]:.3g}{unit}"
         label(page, "ink small", STRIPS_RIGHT + 6, pairs[-1][1] + 4, f"limit {text}")
 
 
