@@ -1,0 +1,1 @@
+// Numeric helpers shared by the laws: saturate, lag, clamp.
