@@ -4,7 +4,7 @@ use Rattle.arithmetic.proofs.trigonometry.arcsine.Tie as tie
 
 returns : tie.Need-returns
 unfolding arcsine
-returns c = rw (c .arctangent .ensures, c .before .root .ensures)
+returns c = rw (c .arctangent .ensures, c .before .root .ensures .is)
 
 pub arcsine-spec : {M : Type 1} → statement M
 arcsine-spec = tie.close (tie.spec (λ c κs. tt) (λ c κs. tt) returns)
