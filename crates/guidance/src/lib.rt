@@ -1,0 +1,2 @@
+// The public guidance calls.
+pub mod plane;

@@ -1,0 +1,82 @@
+// Fixed-wing guidance: plane.rs. A guidance goes in by value and comes back with the answer.
+use laws::config::PlaneGuidanceConfig;
+use laws::navigation::PiLoop;
+use laws::tecs::Tecs;
+use laws::types::Setpoint;
+
+// A guidance: f32 and u32 only, since a host holds it. `requested` is the requested regime: 0 copter, not 0 plane.
+pub struct PlaneGuidance {
+    pub config: PlaneGuidanceConfig,
+    pub requested: u32,
+    pub altitude: PiLoop,
+    pub tecs: Tecs,
+}
+
+// What `new` gives: number 1 with the failing field, or a guidance.
+pub enum Created {
+    Refused(u32),
+    Made(PlaneGuidance),
+}
+
+pub enum LateralLaw {
+    Track,
+    Loiter,
+}
+
+pub enum VerticalLaw {
+    Energy,
+    Hold,
+    Fallback,
+}
+
+// The two law names of a waypoint answer.
+pub struct Laws {
+    pub lateral: LateralLaw,
+    pub vertical: VerticalLaw,
+}
+
+pub struct WaypointAnswer {
+    pub setpoint: Setpoint,
+    pub laws: Laws,
+}
+
+// The answer to a guide call: refused with its number, the setpoint of a command other than a waypoint, or a waypoint's.
+pub enum Answer {
+    Refused(u32),
+    Commanded(Setpoint),
+    Waypoint(WaypointAnswer),
+}
+
+pub struct Guided {
+    pub guidance: PlaneGuidance,
+    pub answer: Answer,
+}
+
+// What `set_config` gives: 0 or the failing field, and the guidance after it.
+pub struct Configured {
+    pub field: u32,
+    pub guidance: PlaneGuidance,
+}
+
+// What a vertical law would answer and store; a refusal with number 4 stores none of it.
+pub struct Vertical {
+    pub pitch_rad: f32,
+    pub thrust: f32,
+    pub altitude: PiLoop,
+    pub tecs: Tecs,
+}
+
+pub enum FlightMode {
+    Copter,
+    Plane,
+}
+
+pub enum ModeRefusal {
+    None,
+    Unsupported,
+}
+
+pub struct FlightModeReport {
+    pub mode: FlightMode,
+    pub refusal: ModeRefusal,
+}
