@@ -1,0 +1,3 @@
+-- Demand 3's proof, and what crates above cite of it.
+pub mod Alike
+pub mod Strike
