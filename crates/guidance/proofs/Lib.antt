@@ -4,3 +4,4 @@ pub mod Strike
 pub mod Limited
 pub mod Runs
 pub mod Demand3
+mod Variants
