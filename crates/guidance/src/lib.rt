@@ -1,2 +1,5 @@
 // The public guidance calls.
+mod commands;
 pub mod plane;
+mod waypoint;
+mod stub;
