@@ -219,10 +219,10 @@ fallback c altitude dt w s cap =
     }
 
 -- what the vertical law would answer and store
-unfoldable pub vertical : VerticalLaw → PlaneGuidance → Float → WaypointCommand → VehicleState → OptionF32 → Vertical
-vertical Energy g dt w s cap = onPath (step (g .tecs) (g .config .tecs) (limitsOf (g .config) cap) (inputs dt w s))
-vertical Hold g dt w s cap = onPath (hold (g .tecs) (limitsOf (g .config) cap))
-vertical Fallback g dt w s cap = fallback (g .config) (g .altitude) dt w s cap
+unfoldable pub vertical : VerticalLaw → PlaneGuidanceConfig → PiLoop → Tecs → Float → WaypointCommand → VehicleState → OptionF32 → Vertical
+vertical Energy c altitude tecs dt w s cap = onPath (step tecs (c .tecs) (limitsOf c cap) (inputs dt w s))
+vertical Hold c altitude tecs dt w s cap = onPath (hold tecs (limitsOf c cap))
+vertical Fallback c altitude tecs dt w s cap = fallback c altitude dt w s cap
 
 abbrev pub finiteState : Tecs → Bool
 finiteState t =
@@ -269,7 +269,8 @@ unfoldable pub waypoint : PlaneGuidance → Float → FlightRegime → WaypointC
 waypoint g dt regime w s cap =
     let law = verticalLaw dt w s in
     cond (badCap cap) (refusal g 3)
-    (settled g regime (record { lateral = lateralLaw w; vertical = law }) (rollOf (g .config) w s) (vertical law g dt w s cap))
+    (settled g regime (record { lateral = lateralLaw w; vertical = law }) (rollOf (g .config) w s)
+    (vertical law (g .config) (g .altitude) (g .tecs) dt w s cap))
 
 unfoldable pub obeyed : PlaneGuidance → Float → FlightRegime → ControlInput → VehicleState → OptionF32 → Guided
 obeyed g dt regime (Input.Attitude k) s cap = commanded g regime (sticks (g .config) k)

@@ -3,4 +3,5 @@ pub mod Math
 pub mod Types
 pub mod Config
 pub mod Navigation
+pub mod Steering
 pub mod Tecs

@@ -1,0 +1,2 @@
+-- Laws about the definitions, for this crate's proofs and for crates above.
+pub mod Steering
