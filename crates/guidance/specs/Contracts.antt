@@ -38,7 +38,7 @@ pub record Creates (c : PlaneGuidanceConfig) (r : Created) : Type 0 where
 
 -- what the vertical law would answer and store
 abbrev pub wouldGive : PlaneGuidance → Float → WaypointCommand → VehicleState → OptionF32 → Vertical
-wouldGive g dt w s cap = vertical (verticalLaw dt w s) g dt w s cap
+wouldGive g dt w s cap = vertical (verticalLaw dt w s) (g .config) (g .altitude) (g .tecs) dt w s cap
 
 -- a waypoint's pitch, thrust and every number it would store would be finite; no other command is asked
 abbrev pub wouldBeFinite : PlaneGuidance → Float → ControlInput → VehicleState → OptionF32 → Bool

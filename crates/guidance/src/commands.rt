@@ -16,7 +16,11 @@ pub fn sticks(config: PlaneGuidanceConfig, command: AttitudeCommand) -> Setpoint
     ensures { λ r. ⌜ r ≡ spec.sticks config command ⌝ }
 {
     let pitch = saturate_unit(command.pitch);
-    let pitch_limit = choose(pitch >= 0.0, config.max_pitch_up_rad, config.max_pitch_down_rad);
+    let pitch_limit = choose(
+        pitch >= 0.0,
+        config.max_pitch_up_rad,
+        config.max_pitch_down_rad,
+    );
     Setpoint::Plane {
         roll_rad: saturate_unit(command.roll) * config.max_bank_rad,
         pitch_rad: pitch * pitch_limit,

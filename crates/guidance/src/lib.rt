@@ -2,4 +2,3 @@
 mod commands;
 pub mod plane;
 mod waypoint;
-mod stub;

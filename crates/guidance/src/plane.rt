@@ -1,17 +1,17 @@
 // Fixed-wing guidance: plane.rs. A guidance goes in by value and comes back with the answer.
-use arithmetic::order::is_finite;
 use crate::commands::absolute_attitude;
 use crate::commands::absolute_rate;
 use crate::commands::neutral;
 use crate::commands::rates;
 use crate::commands::sticks;
-use crate::stub::reset;
 use crate::waypoint::regime_number;
 use crate::waypoint::waypoint;
+use arithmetic::order::is_finite;
 use laws::config::PlaneGuidanceConfig;
 use laws::config::validate;
 use laws::navigation::PiLoop;
 use laws::tecs::Tecs;
+use laws::tecs::reset;
 use laws::types::ControlInput;
 use laws::types::FlightRegime;
 use laws::types::OptionF32;

@@ -1,8 +1,4 @@
 // A waypoint: its laws, their limits, and what it would answer and store.
-use arithmetic::order::clamp;
-use arithmetic::order::greatest;
-use arithmetic::order::least;
-use arithmetic::vector::Vec2;
 use crate::plane::Answer;
 use crate::plane::Guided;
 use crate::plane::LateralLaw;
@@ -11,20 +7,25 @@ use crate::plane::PlaneGuidance;
 use crate::plane::Vertical;
 use crate::plane::VerticalLaw;
 use crate::plane::WaypointAnswer;
-use crate::stub::all_inputs_finite;
-use crate::stub::bank_for_accel_rad;
-use crate::stub::finite_leg;
-use crate::stub::hold;
-use crate::stub::lateral_accel_mps2;
-use crate::stub::pi_step;
-use crate::stub::reset;
-use crate::stub::step;
+use arithmetic::order::clamp;
+use arithmetic::order::greatest;
+use arithmetic::order::least;
+use arithmetic::vector::Vec2;
 use laws::config::PlaneGuidanceConfig;
 use laws::math::clamp_symmetric;
 use laws::navigation::PiLoop;
+use laws::navigation::bank_for_accel_rad;
+use laws::navigation::finite_leg;
+use laws::navigation::lateral_accel_mps2;
+use laws::navigation::pi_step;
 use laws::tecs::Inputs;
 use laws::tecs::Limits;
+use laws::tecs::Tecs;
 use laws::tecs::TecsResult;
+use laws::tecs::all_inputs_finite;
+use laws::tecs::hold;
+use laws::tecs::reset;
+use laws::tecs::step;
 use laws::types::FlightRegime;
 use laws::types::OptionF32;
 use laws::types::OptionVec2;
@@ -222,29 +223,23 @@ fn fallback(
 // What the vertical law would answer and store.
 fn vertical_of(
     law: VerticalLaw,
-    g: PlaneGuidance,
+    config: PlaneGuidanceConfig,
+    altitude: PiLoop,
+    tecs: Tecs,
     dt: f32,
     w: WaypointCommand,
     state: VehicleState,
     cap: OptionF32,
 ) -> Vertical
-    ensures { λ r. ⌜ r ≡ spec.vertical law g dt w state cap ⌝ }
+    ensures { λ r. ⌜ r ≡ spec.vertical law config altitude tecs dt w state cap ⌝ }
 {
-    let config = g.config;
     match law {
         VerticalLaw::Energy => {
             let t = config.tecs;
-            let s = g.tecs;
-            on_path(step(s, t, limits_of(config, cap), inputs_of(dt, w, state)))
+            on_path(step(tecs, t, limits_of(config, cap), inputs_of(dt, w, state)))
         }
-        VerticalLaw::Hold => {
-            let s = g.tecs;
-            on_path(hold(s, limits_of(config, cap)))
-        }
-        VerticalLaw::Fallback => {
-            let altitude = g.altitude;
-            fallback(config, altitude, dt, w, state, cap)
-        }
+        VerticalLaw::Hold => on_path(hold(tecs, limits_of(config, cap))),
+        VerticalLaw::Fallback => fallback(config, altitude, dt, w, state, cap),
     }
 }
 
@@ -318,11 +313,14 @@ pub fn waypoint(
         };
     }
     let config = g.config;
+    let altitude = g.altitude;
+    let tecs = g.tecs;
     let law = vertical_law(dt, w, state);
     let laws = Laws {
         lateral: lateral_law(w),
         vertical: law,
     };
     let roll_rad = roll_of(config, w, state);
-    settled(g, regime, laws, roll_rad, vertical_of(law, g, dt, w, state, cap))
+    let v = vertical_of(law, config, altitude, tecs, dt, w, state, cap);
+    settled(g, regime, laws, roll_rad, v)
 }
