@@ -265,6 +265,16 @@ fn all_finite(v: Vertical) -> bool
         == 0.0
 }
 
+// A refusal returns the guidance as it was.
+pub fn refusal(g: PlaneGuidance, number: u32) -> Guided
+    ensures { λ r. ⌜ r ≡ spec.refusal g number ⌝ }
+{
+    Guided {
+        guidance: g,
+        answer: Answer::Refused(number),
+    }
+}
+
 // Number 4 where a number would not be finite; else the answer, and the guidance with what the law stores.
 fn settled(g: PlaneGuidance, regime: FlightRegime, laws: Laws, roll_rad: f32, v: Vertical) -> Guided
     ensures { λ r. ⌜ r ≡ spec.settled g regime laws «roll_rad» v ⌝ }
@@ -289,10 +299,7 @@ fn settled(g: PlaneGuidance, regime: FlightRegime, laws: Laws, roll_rad: f32, v:
             answer: Answer::Waypoint(WaypointAnswer { setpoint, laws }),
         }
     } else {
-        Guided {
-            guidance: g,
-            answer: Answer::Refused(4),
-        }
+        refusal(g, 4)
     }
 }
 
@@ -307,10 +314,7 @@ pub fn waypoint(
     ensures { λ r. ⌜ r ≡ spec.waypoint g dt regime w state cap ⌝ }
 {
     if bad_cap(cap) {
-        return Guided {
-            guidance: g,
-            answer: Answer::Refused(3),
-        };
+        return refusal(g, 3);
     }
     let config = g.config;
     let altitude = g.altitude;
