@@ -6,13 +6,22 @@ use laws::math::saturate_unit;
 use laws::types::AbsoluteAttitudeCommand;
 use laws::types::AbsoluteRateCommand;
 use laws::types::AttitudeCommand;
+use laws::types::ControlInput;
 use laws::types::RateCommand;
 use laws::types::Setpoint;
+use laws::types::WaypointCommand;
 ghost use mathlib.Core.Path.{_≡_};
 ghost use Rattle.guidance.specs.Plane as spec;
+ghost use Rattle.guidance.specs.Orders as orders;
+
+// What a command asks: a setpoint that it gives itself, or a waypoint to fly.
+pub enum Order {
+    Setpoint(Setpoint),
+    Waypoint(WaypointCommand),
+}
 
 // Sticks to bank and pitch, pitch asymmetric.
-pub fn sticks(config: PlaneGuidanceConfig, command: AttitudeCommand) -> Setpoint
+fn sticks(config: PlaneGuidanceConfig, command: AttitudeCommand) -> Setpoint
     ensures { λ r. ⌜ r ≡ spec.sticks config command ⌝ }
 {
     let pitch = saturate_unit(command.pitch);
@@ -28,7 +37,7 @@ pub fn sticks(config: PlaneGuidanceConfig, command: AttitudeCommand) -> Setpoint
     }
 }
 
-pub fn rates(config: PlaneGuidanceConfig, command: RateCommand) -> Setpoint
+fn rates(config: PlaneGuidanceConfig, command: RateCommand) -> Setpoint
     ensures { λ r. ⌜ r ≡ spec.rates config command ⌝ }
 {
     Setpoint::PlaneRate {
@@ -40,7 +49,7 @@ pub fn rates(config: PlaneGuidanceConfig, command: RateCommand) -> Setpoint
 }
 
 // Angles pass unchecked, NaN included.
-pub fn absolute_attitude(command: AbsoluteAttitudeCommand) -> Setpoint
+fn absolute_attitude(command: AbsoluteAttitudeCommand) -> Setpoint
     ensures { λ r. ⌜ r ≡ spec.absoluteAttitude command ⌝ }
 {
     Setpoint::Plane {
@@ -51,7 +60,7 @@ pub fn absolute_attitude(command: AbsoluteAttitudeCommand) -> Setpoint
 }
 
 // Rates pass unchecked, NaN included.
-pub fn absolute_rate(command: AbsoluteRateCommand) -> Setpoint
+fn absolute_rate(command: AbsoluteRateCommand) -> Setpoint
     ensures { λ r. ⌜ r ≡ spec.absoluteRate command ⌝ }
 {
     Setpoint::PlaneRate {
@@ -63,12 +72,25 @@ pub fn absolute_rate(command: AbsoluteRateCommand) -> Setpoint
 }
 
 // Level, no thrust.
-pub fn neutral() -> Setpoint
+fn neutral() -> Setpoint
     ensures { λ r. ⌜ r ≡ spec.neutral ⌝ }
 {
     Setpoint::Plane {
         roll_rad: 0.0,
         pitch_rad: 0.0,
         thrust: 0.0,
+    }
+}
+
+pub fn order_of(config: PlaneGuidanceConfig, input: ControlInput) -> Order
+    ensures { λ r. ⌜ r ≡ orders.orderOf config input ⌝ }
+{
+    match input {
+        ControlInput::Attitude(k) => Order::Setpoint(sticks(config, k)),
+        ControlInput::Rate(k) => Order::Setpoint(rates(config, k)),
+        ControlInput::Waypoint(w) => Order::Waypoint(w),
+        ControlInput::AbsoluteAttitude(k) => Order::Setpoint(absolute_attitude(k)),
+        ControlInput::Land => Order::Setpoint(neutral()),
+        ControlInput::AbsoluteRate(k) => Order::Setpoint(absolute_rate(k)),
     }
 }

@@ -1,9 +1,7 @@
 // Fixed-wing guidance: plane.rs. A guidance goes in by value and comes back with the answer.
-use crate::commands::absolute_attitude;
-use crate::commands::absolute_rate;
-use crate::commands::neutral;
-use crate::commands::rates;
-use crate::commands::sticks;
+use crate::commands::Order;
+use crate::commands::order_of;
+use crate::waypoint::refusal;
 use crate::waypoint::regime_number;
 use crate::waypoint::waypoint;
 use arithmetic::order::is_finite;
@@ -104,10 +102,11 @@ fn cleared(g: PlaneGuidance, requested: u32) -> PlaneGuidance
     ensures { λ r. ⌜ r ≡ spec.cleared g requested ⌝ }
 {
     let config = g.config;
+    let altitude = PiLoop { integral: 0.0 };
     PlaneGuidance {
         config,
         requested,
-        altitude: PiLoop { integral: 0.0 },
+        altitude,
         tecs: reset(),
     }
 }
@@ -133,13 +132,10 @@ fn obeyed(
     ensures { λ r. ⌜ r ≡ spec.obeyed g dt regime input state «pitch_cap_rad» ⌝ }
 {
     let config = g.config;
-    match input {
-        ControlInput::Attitude(k) => commanded(g, regime, sticks(config, k)),
-        ControlInput::Rate(k) => commanded(g, regime, rates(config, k)),
-        ControlInput::Waypoint(w) => waypoint(g, dt, regime, w, state, pitch_cap_rad),
-        ControlInput::AbsoluteAttitude(k) => commanded(g, regime, absolute_attitude(k)),
-        ControlInput::Land => commanded(g, regime, neutral()),
-        ControlInput::AbsoluteRate(k) => commanded(g, regime, absolute_rate(k)),
+    let order = order_of(config, input);
+    match order {
+        Order::Setpoint(setpoint) => commanded(g, regime, setpoint),
+        Order::Waypoint(w) => waypoint(g, dt, regime, w, state, pitch_cap_rad),
     }
 }
 
@@ -174,10 +170,7 @@ impl PlaneGuidance {
         if (dt > 0.0) & is_finite(dt) {
             obeyed(self, dt, regime, input, state, pitch_cap_rad)
         } else {
-            Guided {
-                guidance: self,
-                answer: Answer::Refused(2),
-            }
+            refusal(self, 2)
         }
     }
 

@@ -265,34 +265,48 @@ fn all_finite(v: Vertical) -> bool
         == 0.0
 }
 
-// Number 4 where a number would not be finite; else the answer, and the guidance with what the law stores.
+// A refusal returns the guidance as it was.
+pub fn refusal(g: PlaneGuidance, number: u32) -> Guided
+    ensures { λ r. ⌜ r ≡ spec.refusal g number ⌝ }
+{
+    Guided {
+        guidance: g,
+        answer: Answer::Refused(number),
+    }
+}
+
+// The answer, and the guidance with what the vertical law stores.
+fn flown(g: PlaneGuidance, regime: FlightRegime, laws: Laws, roll_rad: f32, v: Vertical) -> Guided
+    ensures { λ r. ⌜ r ≡ spec.flown g regime laws «roll_rad» v ⌝ }
+{
+    let config = g.config;
+    let altitude = v.altitude;
+    let tecs = v.tecs;
+    let requested = regime_number(regime);
+    let setpoint = Setpoint::Plane {
+        roll_rad,
+        pitch_rad: v.pitch_rad,
+        thrust: v.thrust,
+    };
+    Guided {
+        guidance: PlaneGuidance {
+            config,
+            requested,
+            altitude,
+            tecs,
+        },
+        answer: Answer::Waypoint(WaypointAnswer { setpoint, laws }),
+    }
+}
+
+// Number 4 where a number would not be finite.
 fn settled(g: PlaneGuidance, regime: FlightRegime, laws: Laws, roll_rad: f32, v: Vertical) -> Guided
     ensures { λ r. ⌜ r ≡ spec.settled g regime laws «roll_rad» v ⌝ }
 {
     if all_finite(v) {
-        let config = g.config;
-        let altitude = v.altitude;
-        let tecs = v.tecs;
-        let requested = regime_number(regime);
-        let setpoint = Setpoint::Plane {
-            roll_rad,
-            pitch_rad: v.pitch_rad,
-            thrust: v.thrust,
-        };
-        Guided {
-            guidance: PlaneGuidance {
-                config,
-                requested,
-                altitude,
-                tecs,
-            },
-            answer: Answer::Waypoint(WaypointAnswer { setpoint, laws }),
-        }
+        flown(g, regime, laws, roll_rad, v)
     } else {
-        Guided {
-            guidance: g,
-            answer: Answer::Refused(4),
-        }
+        refusal(g, 4)
     }
 }
 
@@ -307,10 +321,7 @@ pub fn waypoint(
     ensures { λ r. ⌜ r ≡ spec.waypoint g dt regime w state cap ⌝ }
 {
     if bad_cap(cap) {
-        return Guided {
-            guidance: g,
-            answer: Answer::Refused(3),
-        };
+        return refusal(g, 3);
     }
     let config = g.config;
     let altitude = g.altitude;

@@ -4,7 +4,7 @@ use Rattle.guidance.proofs.waypoint.waypoint.Tie as tie
 
 returns : tie.Need-returns
 unfolding waypoint
-returns c = rw (← c .before .bad-cap .ensures, c .if1 .taken)
+returns c = rw (c .refusal .ensures, ← c .before .before .bad-cap .ensures, c .before .if1 .taken)
 
 returns-2 : tie.Need-returns-2
 unfolding waypoint
@@ -17,4 +17,4 @@ returns-2 c =
     rw (c .settled .ensures, v .vertical-of .ensures, r .roll-of .ensures, l .lateral-law .ensures, a .vertical-law .ensures, ← e .before .bad-cap .ensures, e .if1 .left)
 
 pub waypoint-spec : {M : Type 1} → statement M
-waypoint-spec = tie.close (tie.spec (λ c κs. tt) returns (λ c κs. tt) (λ c κs. tt) (λ c κs. tt) (λ c κs. tt) (λ c κs. tt) returns-2)
+waypoint-spec = tie.close (tie.spec (λ c κs. tt) (λ c κs. tt) returns (λ c κs. tt) (λ c κs. tt) (λ c κs. tt) (λ c κs. tt) (λ c κs. tt) returns-2)

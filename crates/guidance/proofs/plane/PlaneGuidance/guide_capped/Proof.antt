@@ -11,7 +11,7 @@ returns c =
 
 returns-2 : tie.Need-returns-2
 unfolding guided
-returns-2 c = guides _ _ _ _ _ _ _ (rw (← c .before .is-finite .ensures, c .if1 .left))
+returns-2 c = guides _ _ _ _ _ _ _ (rw (c .refusal .ensures, ← c .before .before .is-finite .ensures, c .before .if1 .left))
 
 pub guide-capped-spec : {M : Type 1} → statement M
-guide-capped-spec = tie.close (tie.spec (λ c κs. tt) (λ c κs. tt) returns returns-2)
+guide-capped-spec = tie.close (tie.spec (λ c κs. tt) (λ c κs. tt) (λ c κs. tt) returns returns-2)
