@@ -1,0 +1,3 @@
+-- Lemmas of the records' proofs.
+pub mod NumberLaw
+pub mod FieldLaw

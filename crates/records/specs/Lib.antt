@@ -1,0 +1,3 @@
+-- Document 01, "Records and desk program": what the contracts of `records` cite.
+pub mod Bytes
+pub mod Fields
