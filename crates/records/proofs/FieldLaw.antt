@@ -8,12 +8,12 @@ use native.Mathlib.Numerals.{add-one}
 use native.Mathlib.Nat.{sub-zero, add-zero, mod-lt, pow-suc, lt-of-lt-of-le}
 use lib.Pow.{pow-mono}
 use borrow.Rule.Slice.PartMut.{putMid, post-is}
-use borrow.Author.Tests.{eq-eqb, ne-eqb}
-use lib.Dec.{lit<}
+use borrow.Author.Tests.{eq-eqb, ne-eqb, eqb-true, eqb-false}
+use lib.Dec.{eqb, lit<}
 use lib.ListN.{length, set, drop, take, getD, length-append, length-drop, length-set, drop-of-length-le, take-append-drop}
 use lib.Seq.{drop-length, take-all, take-at, drop-at, length-take-le, drop-cons, drop-drop, take-suc, take-suc-set, drop-set-lt}
 use Rattle.records.specs.Bytes.{numberAt, bytesOf, putAt}
-use Rattle.records.specs.Fields.{Field, ones, numberFields, valuesAt, written, bitOf, mapOf, bodyOf}
+use Rattle.records.specs.Fields.{Field, ones, sizeOf, numberFields, valuesAt, isWritten, bitOf, mapOf, bodyOf}
 use Rattle.records.proofs.NumberLaw.{bytes-long}
 
 -- ---- how many bits stand
@@ -146,6 +146,18 @@ put-more out at n a b l h =
     let size : at + length (a ++ b) ≡ at + n + length b = simp length-append (omega arith) in
     rw (first, tail, size, append-assoc (take at out) a _, append-assoc a b _) refl
 
+-- a part from a place on, lent and come back with bytes at its front
+pub put-lent : (out p : List ℕ) (at : ℕ) (bs : List ℕ) → at ≤ length out → p ≡ putAt (take (length out - at) (drop at out)) 0 bs → putMid at (length out - at) out p ≡ putAt out at bs
+put-lent out p at bs h e =
+    let z : 0 + length bs ≡ length bs = omega arith in
+    rest-back out p at h ∙ rw (e, rest-is out at, z, drop-drop (length bs) at out)
+
+-- bytes at the front of a part, and then more after them
+pub put-after : (n : ℕ) (p₀ p₁ p₂ a b : List ℕ) → length a ≡ n → n ≤ length p₀ → p₁ ≡ a ++ drop n p₀ → p₂ ≡ putAt p₁ n b → p₂ ≡ putAt p₀ 0 (a ++ b)
+put-after n p₀ p₁ p₂ a b l h e₁ e₂ =
+    let z : 0 + n ≡ n = omega arith in
+    e₂ ∙ rw e₁ (rw z at (put-more p₀ 0 n a b l (omega arith)))
+
 -- the fields of `write_values`; what a missing one means is of no account
 abbrev Body : ℕ → List ℕ → List ℕ
 Body m v = bodyOf (numberFields v) m v
@@ -210,6 +222,47 @@ module _ {out₀ : List ℕ} {from map : ℕ} {v : List ℕ} {out : List ℕ} {a
   pub write-place : length v ≤ i → at ≡ from + 4 * ones (length v) map
   write-place h = omega (arith, f .place, no-ones m (length v) i h)
 
+-- ---- the byte count
+
+-- of fields that are numbers
+pub size-numbers : (ds : List ℕ) (m : ℕ) → sizeOf (numberFields ds) m ≡ 4 * ones (length ds) m
+unfolding sizeOf numberFields ones
+size-numbers [] m = refl
+size-numbers (d ∷ ds) m = go (eqb (m % 2) 1) refl (size-numbers ds (m / 2))
+  where
+    go : (b : Bool) → eqb (m % 2) 1 ≡ b → sizeOf (numberFields ds) (m / 2) ≡ 4 * ones (length ds) (m / 2)
+        → cond b 4 0 + sizeOf (numberFields ds) (m / 2) ≡ 4 * (m % 2 + ones (length ds) (m / 2))
+    go true e ih = omega (arith, eqb-true (m % 2) 1 e)
+    go false e ih = let z : m % 2 ≡ 0 = not-one (m % 2) (eqb-false _ _ e) (mod-lt m (lit< tt)) in omega arith
+
+-- of the bytes that are written
+pub body-long : (fs : List Field) (vs : List ℕ) (m : ℕ) → length vs ≡ length fs → length (bodyOf fs m vs) ≡ sizeOf fs m
+unfolding bodyOf sizeOf
+body-long [] vs m h = refl
+body-long (f ∷ fs) [] m h = absurd (omega arith)
+body-long (f ∷ fs) (v ∷ vs) m h = go (eqb (m % 2) 1) (body-long fs vs (m / 2) (omega arith))
+  where
+    go : (b : Bool) → length (bodyOf fs (m / 2) vs) ≡ sizeOf fs (m / 2)
+        → length (cond b (bytesOf (f .bytes) v) [] ++ bodyOf fs (m / 2) vs) ≡ cond b (f .bytes) 0 + sizeOf fs (m / 2)
+    go true ih = length-append (bytesOf (f .bytes) v) (bodyOf fs (m / 2) vs) ∙ omega (arith, bytes-long (f .bytes) v)
+    go false ih = omega arith
+
+numbers-long : (ds : List ℕ) → length (numberFields ds) ≡ length ds
+unfolding numberFields
+numbers-long [] = refl
+numbers-long (d ∷ ds) = ap suc (numbers-long ds)
+
+pub body-numbers : (vs : List ℕ) (m : ℕ) → length (bodyOf (numberFields vs) m vs) ≡ 4 * ones (length vs) m
+body-numbers vs m = body-long (numberFields vs) vs m (sym (numbers-long vs)) ∙ size-numbers vs m
+
+-- what a missing field means is of no account to the bytes
+pub body-missing : (ds vs : List ℕ) (m : ℕ) → length ds ≡ length vs → bodyOf (numberFields ds) m vs ≡ bodyOf (numberFields vs) m vs
+unfolding bodyOf numberFields
+body-missing [] [] m h = refl
+body-missing [] (v ∷ vs) m h = absurd (omega arith)
+body-missing (d ∷ ds) [] m h = absurd (omega arith)
+body-missing (d ∷ ds) (v ∷ vs) m h = rw (body-missing ds vs (m / 2) (omega arith))
+
 -- ---- the map
 
 pub bit-small : (b : Bool) → bitOf b ≤ 1
@@ -233,21 +286,21 @@ map-starts keep v missing =
     record { below = omega arith; is = sym (rw (drop-length keep) (map-none _ _)); small = rw z (lit< tt) }
 
 module _ {keep v missing : List ℕ} {m i : ℕ} (f : Mapping keep v missing m i) (lv : length v ≡ length keep) (ld : length missing ≡ length keep) where
-  map-step : (j : ℕ) → suc j ≡ i → mapOf (numberFields (drop j missing)) (drop j keep) (drop j v) ≡ bitOf (written (getD keep j 0) (getD v j 0) (getD missing j 0)) + 2 * mapOf (numberFields (drop i missing)) (drop i keep) (drop i v)
+  map-step : (j : ℕ) → suc j ≡ i → mapOf (numberFields (drop j missing)) (drop j keep) (drop j v) ≡ bitOf (isWritten (getD keep j 0) (getD v j 0) (getD missing j 0)) + 2 * mapOf (numberFields (drop i missing)) (drop i keep) (drop i v)
   unfolding mapOf numberFields
   map-step j e = rw (← e, drop-cons keep j 0 (omega (arith, f .below)), drop-cons v j 0 (omega (arith, f .below)), drop-cons missing j 0 (omega (arith, f .below)))
 
   pub map-fits : length keep ≤ 40 → m < 2 ^ 40
   map-fits h = lt-of-lt-of-le (f .small) (pow-mono {i = length keep - i} {j = 40} (omega arith))
 
-  pub map-turn : 0 < i → (b : ℕ) → b ≡ bitOf (written (getD keep (i - 1) 0) (getD v (i - 1) 0) (getD missing (i - 1) 0)) → Mapping keep v missing (2 * m + b) (i - 1)
+  pub map-turn : 0 < i → (b : ℕ) → b ≡ bitOf (isWritten (getD keep (i - 1) 0) (getD v (i - 1) 0) (getD missing (i - 1) 0)) → Mapping keep v missing (2 * m + b) (i - 1)
   map-turn h b e =
       record {
         below = omega (arith, f .below);
         is = omega (arith, map-step (i - 1) (omega arith), e, f .is);
         small =
           let q : length keep - (i - 1) ≡ suc (length keep - i) = omega (arith, f .below) in
-          rw (q, pow-suc 2 (length keep - i)) (omega (arith, f .small, e, bit-small (written (getD keep (i - 1) 0) (getD v (i - 1) 0) (getD missing (i - 1) 0))))
+          rw (q, pow-suc 2 (length keep - i)) (omega (arith, f .small, e, bit-small (isWritten (getD keep (i - 1) 0) (getD v (i - 1) 0) (getD missing (i - 1) 0))))
       }
 
 pub map-done : {keep v missing : List ℕ} {m i : ℕ} → Mapping keep v missing m i → i ≤ 0 → (m ≡ mapOf (numberFields missing) keep v) × (m < 2 ^ length keep)

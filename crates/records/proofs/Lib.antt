@@ -1,3 +1,6 @@
 -- Lemmas of the records' proofs.
 pub mod NumberLaw
+pub mod MapLaw
 pub mod FieldLaw
+pub mod WriteLaw
+pub mod ConfigLaw

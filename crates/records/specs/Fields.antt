@@ -39,8 +39,8 @@ valuesAt (f ∷ fs) m s =
 
 -- Writing: "the writer leaves out what missing would give, compared as bits". k is 1 for a field that is written
 -- whatever its value: the kind, and a leg, an airspeed or a cap that is present.
-abbrev pub written : ℕ → ℕ → ℕ → Bool
-written k v missing = eqb k 1 || not (eqb v missing)
+abbrev pub isWritten : ℕ → ℕ → ℕ → Bool
+isWritten k v missing = eqb k 1 || not (eqb v missing)
 
 -- a bit that stands, or does not
 abbrev pub bitOf : Bool → ℕ
@@ -51,7 +51,7 @@ unfoldable pub mapOf : List Field → List ℕ → List ℕ → ℕ
 mapOf [] ks vs = 0
 mapOf (f ∷ fs) [] vs = 0
 mapOf (f ∷ fs) (k ∷ ks) [] = 0
-mapOf (f ∷ fs) (k ∷ ks) (v ∷ vs) = bitOf (written k v (f .missing)) + 2 * mapOf fs ks vs
+mapOf (f ∷ fs) (k ∷ ks) (v ∷ vs) = bitOf (isWritten k v (f .missing)) + 2 * mapOf fs ks vs
 
 -- the bytes of the fields that stand in a map
 unfoldable pub bodyOf : List Field → ℕ → List ℕ → List ℕ

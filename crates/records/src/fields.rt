@@ -4,7 +4,7 @@ ghost use mathlib.Core.Path.{_≡_};
 ghost use Prim.Native.Nat.{_≤_, _<_, _+_, _*_, _^_};
 ghost use lib.ListN.{length, drop};
 ghost use Rattle.records.specs.Bytes.{putAt};
-ghost use Rattle.records.specs.Fields.{numberFields, ones, valuesAt, written, bitOf, mapOf, bodyOf};
+ghost use Rattle.records.specs.Fields.{numberFields, ones, valuesAt, isWritten, bitOf, mapOf, bodyOf};
 
 // Where the next field of a record starts.
 pub struct Cursor {
@@ -64,7 +64,7 @@ pub fn map_of(keep: &[u8], v: &[u32], missing: &[u32]) -> u64
 }
 
 fn is_written(keep: u8, v: u32, missing: u32) -> u64
-    ensures { λ r. ⌜ (r ≡ bitOf (written keep v missing)) × (r < 2) ⌝ }
+    ensures { λ r. ⌜ (r ≡ bitOf (isWritten keep v missing)) × (r < 2) ⌝ }
 {
     if keep == 1 {
         return 1;
