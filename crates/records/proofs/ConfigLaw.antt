@@ -9,13 +9,13 @@ use lib.ListN.{length, drop, take, replicate, length-append}
 use lib.Ieee.{Float}
 use Rattle.laws.specs.declared.config.PlaneGuidanceConfig.{PlaneGuidanceConfig}
 use Rattle.laws.specs.Config.{default}
-use Rattle.records.specs.Bytes.{numberAt, bytesOf, putAt}
-use Rattle.records.specs.Fields.{Field, ones, named, sizeOf, valuesAt, mapOf, bodyOf, numberFields}
-use Rattle.records.specs.Numbers.{floatsOf, bitsOf}
+use Rattle.fields.specs.Bytes.{numberAt, bytesOf, putAt}
+use Rattle.fields.specs.Fields.{Field, ones, named, sizeOf, valuesAt, mapOf, bodyOf, numberFields}
+use Rattle.fields.specs.Numbers.{floatsOf, bitsOf}
 use Rattle.records.specs.Config.{configOf, numbersOf, configFields, configMap, configRecord, readConfig}
 use Rattle.records.specs.declared.config.ReadConfig.the-variants.{Read, Refused}
-use Rattle.records.proofs.NumberLaw.{bytes-long}
-use Rattle.records.proofs.FieldLaw.{rest-is, size-numbers, body-numbers, body-missing}
+use Rattle.fields.proofs.NumberLaw.{bytes-long}
+use Rattle.fields.proofs.FieldLaw.{rest-is, size-numbers, body-numbers, body-missing}
 
 pub bits-long : (c : PlaneGuidanceConfig) → length (bitsOf (numbersOf c)) ≡ 33
 unfolding bitsOf numbersOf

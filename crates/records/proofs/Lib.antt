@@ -1,6 +1,3 @@
--- Lemmas of the records' proofs.
-pub mod NumberLaw
-pub mod MapLaw
-pub mod FieldLaw
-pub mod WriteLaw
+-- Laws of the two records.
 pub mod ConfigLaw
+pub mod CallLaw

@@ -17,9 +17,10 @@ use Rattle.laws.specs.declared.types.WaypointCommand.{WaypointCommand}
 use Rattle.laws.specs.declared.types.AbsoluteAttitudeCommand.{AbsoluteAttitudeCommand}
 use Rattle.laws.specs.declared.types.AbsoluteRateCommand.{AbsoluteRateCommand}
 use Rattle.laws.specs.declared.types.VehicleState.{VehicleState}
-use Rattle.records.specs.Bytes.{numberAt, bytesOf, hasBytes}
-use Rattle.records.specs.Fields.{Field, bit, named, sizeOf, valuesAt, mapOf, bodyOf, numberFields}
-use Rattle.records.specs.Numbers.{floatsOf, bitsOf}
+use Rattle.fields.specs.Bytes.{numberAt, bytesOf, hasBytes}
+use Rattle.fields.specs.Fields.{Field, stands, named, sizeOf, valuesAt, mapOf, bodyOf, numberFields}
+use Rattle.fields.specs.Numbers.{floatsOf, bitsOf}
+use Rattle.records.specs.declared.call.ByteRead.{ByteRead}
 use Rattle.records.specs.declared.call.Call.{Call}
 use Rattle.records.specs.declared.call.Call.the-variants.{Prime, Attitude, Rate, Waypoint, AbsoluteAttitude, Land, AbsoluteRate}
 use Rattle.records.specs.declared.call.ReadCall.{ReadCall}
@@ -37,11 +38,18 @@ callFields = record { bytes = 1; missing = 0 } ∷ record { bytes = 1; missing =
 
 -- what 6 asks of a map: no unnamed bit, the kind bit, both parts of a leg or neither
 unfoldable pub complete : ℕ → Bool
-complete m = named callFields m && bit 0 m && eqb (m / 2 ^ 9 % 2) (m / 2 ^ 10 % 2)
+complete m = named callFields m && stands m && eqb (m / 2 ^ 9 % 2) (m / 2 ^ 10 % 2)
 
 -- what 7 refuses: a kind byte above 6, or a regime byte above 1
 unfoldable pub unknown : ℕ → ℕ → Bool
 unknown kind regime = ltb 6 kind || ltb 1 regime
+
+-- a field of one byte at a place, or what missing means, and the place after it
+unfoldable pub byteAt : List ℕ → ℕ → ℕ → ℕ → ByteRead
+byteAt s at m missing =
+    cond (stands m)
+    (record { value = numberAt 1 (drop at s); rest = record { at = at + 1 } })
+    (record { value = missing; rest = record { at = at } })
 
 -- 0 copter, 1 plane
 unfoldable pub regimeOf : ℕ → FlightRegime
@@ -51,13 +59,13 @@ regimeOf r = cond (eqb r 0) Copter Plane
 abbrev pub at : List Float → ℕ → Float
 at v n = getD v (n - 2) nan
 
--- a number that is none where it is missing
-unfoldable pub optionAt : ℕ → List Float → ℕ → OptionF32
-optionAt m v n = cond (bit n m) (number.Some (at v n)) number.None
+-- a number that is none where its bit, the lowest of a map, does not stand
+unfoldable pub optionOf : ℕ → Float → OptionF32
+optionOf m x = cond (stands m) (number.Some x) number.None
 
--- a missing leg is none
-unfoldable pub legAt : ℕ → List Float → OptionVec2
-legAt m v = cond (bit 9 m) (leg.Some (record { x = at v 9; y = at v 10 })) leg.None
+-- a leg likewise
+unfoldable pub legOf : ℕ → Float → Float → OptionVec2
+legOf m x y = cond (stands m) (leg.Some (record { x = x; y = y })) leg.None
 
 -- bits 3 to 6: command numbers in the order `guide_capped` reads them
 unfoldable pub attitudeAt : List Float → AttitudeCommand
@@ -76,7 +84,7 @@ absoluteRateAt v = record { «roll_radps» = at v 3; «pitch_radps» = at v 4; �
 unfoldable pub waypointAt : ℕ → List Float → WaypointCommand
 waypointAt m v = record {
     «position_m» = record { x = at v 7; y = at v 8 };
-    «velocity_mps» = legAt m v;
+    «velocity_mps» = legOf (m / 2 ^ 9) (at v 9) (at v 10);
     «altitude_m» = at v 11;
     «cruise_speed_mps» = at v 12
   }
@@ -87,7 +95,7 @@ stateAt m v = record {
     «position_m» = record { x = at v 13; y = at v 14; z = at v 15 };
     «velocity_mps» = record { x = at v 16; y = at v 17; z = at v 18 };
     «roll_rad» = at v 19;
-    «airspeed_mps» = optionAt m v 20
+    «airspeed_mps» = optionOf (m / 2 ^ 20) (at v 20)
   }
 
 -- the call of a kind: a field that its kind doesn't use is no part of it; 2 time step; 21 cap
@@ -96,7 +104,7 @@ callOf kind r m v =
     cond (eqb kind 0) Prime
     (cond (eqb kind 1) (Attitude r (at v 2) (attitudeAt v))
     (cond (eqb kind 2) (Rate r (at v 2) (rateAt v))
-    (cond (eqb kind 3) (Waypoint r (at v 2) (waypointAt m v) (stateAt m v) (optionAt m v 21))
+    (cond (eqb kind 3) (Waypoint r (at v 2) (waypointAt m v) (stateAt m v) (optionOf (m / 2 ^ 21) (at v 21)))
     (cond (eqb kind 4) (AbsoluteAttitude r (at v 2) (absoluteAttitudeAt v))
     (cond (eqb kind 5) (Land r (at v 2))
     (AbsoluteRate r (at v 2) (absoluteRateAt v)))))))

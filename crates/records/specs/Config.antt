@@ -6,9 +6,9 @@ use lib.ListN.{length, drop, getD, replicate}
 use lib.Ieee.{Float, nan}
 use Rattle.laws.specs.declared.config.PlaneGuidanceConfig.{PlaneGuidanceConfig}
 use Rattle.laws.specs.Config.{default}
-use Rattle.records.specs.Bytes.{numberAt, bytesOf, hasBytes}
-use Rattle.records.specs.Fields.{Field, named, sizeOf, valuesAt, mapOf, bodyOf, numberFields}
-use Rattle.records.specs.Numbers.{floatsOf, bitsOf}
+use Rattle.fields.specs.Bytes.{numberAt, bytesOf, hasBytes}
+use Rattle.fields.specs.Fields.{Field, named, sizeOf, valuesAt, mapOf, bodyOf, numberFields}
+use Rattle.fields.specs.Numbers.{floatsOf, bitsOf}
 use Rattle.records.specs.declared.config.ReadConfig.{ReadConfig}
 use Rattle.records.specs.declared.config.ReadConfig.the-variants as read
 

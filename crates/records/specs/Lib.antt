@@ -1,7 +1,3 @@
--- Document 01, "Records and desk program": what the contracts of `records` cite.
-pub mod Bytes
-pub mod Fields
-pub mod Numbers
-pub mod Writing
+-- Document 01, "Records and desk program": the configuration record and the call record.
 pub mod Config
 pub mod Call

@@ -1,8 +1,7 @@
 // The configuration record: a 5-byte map, bit n-1 for field n, then fields.
-use crate::Written;
-use crate::bytes::{read_number, write_number};
-use crate::fields::{Cursor, count, map_of, read_values, write_values};
-use crate::numbers::{bits, floats};
+use fields::bytes::{read_number, write_number};
+use fields::{Cursor, Written, count, map_of, read_values, write_values};
+use fields::numbers::{bits, floats};
 use laws::config::{PlaneGuidanceConfig, TecsConfig};
 use laws::types::Vec3;
 ghost use mathlib.Core.Path.{_≡_};
@@ -10,11 +9,11 @@ ghost use mathlib.Core.List.{_++_};
 ghost use Prim.Native.Nat.{_≤_, _<_, _+_, _*_};
 ghost use lib.ListN.{length, replicate};
 ghost use Rattle.laws.specs.Config.{default};
-ghost use Rattle.records.specs.Bytes.{bytesOf, putAt};
-ghost use Rattle.records.specs.Fields.{ones, mapOf, bodyOf, numberFields};
-ghost use Rattle.records.specs.Numbers.{floatsOf, bitsOf};
+ghost use Rattle.fields.specs.Bytes.{bytesOf, putAt};
+ghost use Rattle.fields.specs.Fields.{ones, mapOf, bodyOf, numberFields};
+ghost use Rattle.fields.specs.Numbers.{floatsOf, bitsOf};
 ghost use Rattle.records.specs.Config.{configOf, numbersOf, configFields, readConfig, configRecord};
-ghost use Rattle.records.specs.Writing.{answerOf, bufferOf};
+ghost use Rattle.fields.specs.Writing.{answerOf, bufferOf};
 
 // What the reader answers: the configuration and the place after the record, or the refusal's number.
 pub enum ReadConfig {

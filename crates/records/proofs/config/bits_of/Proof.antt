@@ -1,7 +1,7 @@
 -- `config::bits_of` meets its contract. Assumes nothing.
 use mathlib.Core.Path.{ap, _∙_}
 use borrow.Author.Needs.{needs}
-use Rattle.records.specs.Numbers.{bitsOf}
+use Rattle.fields.specs.Numbers.{bitsOf}
 use Rattle.records.proofs.config.bits_of.Statement.{statement}
 use Rattle.records.proofs.config.bits_of.Tie as tie
 

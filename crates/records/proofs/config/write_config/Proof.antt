@@ -4,7 +4,7 @@ use native.Mathlib.Omega.{arith}
 use lib.ListN.{length}
 use borrow.Author.Needs.{needs}
 use Rattle.records.specs.Config.{configRecord}
-use Rattle.records.proofs.WriteLaw.{refused, accepted}
+use Rattle.fields.proofs.WriteLaw.{refused, accepted}
 use Rattle.records.proofs.ConfigLaw.{bits-long, map-is, record-is, record-long}
 use Rattle.records.proofs.config.write_config.Statement.{statement}
 use Rattle.records.proofs.config.write_config.Tie as tie

@@ -1,9 +1,9 @@
 -- `config::write_fields` meets its contract: a map, and then the fields after it. Assumes nothing.
 use native.Mathlib.Omega.{arith}
 use borrow.Author.Needs.{needs}
-use Rattle.records.specs.Bytes.{bytesOf}
-use Rattle.records.proofs.NumberLaw.{bytes-long}
-use Rattle.records.proofs.FieldLaw.{put-after}
+use Rattle.fields.specs.Bytes.{bytesOf}
+use Rattle.fields.proofs.NumberLaw.{bytes-long}
+use Rattle.fields.proofs.FieldLaw.{put-after}
 use Rattle.records.proofs.config.write_fields.Statement.{statement}
 use Rattle.records.proofs.config.write_fields.Tie as tie
 
