@@ -1,6 +1,6 @@
 -- Lemmas of the root's proof.
 mod Squares
 mod Rounded
-mod Patterns
+pub mod Patterns
 mod Whole
 mod Law

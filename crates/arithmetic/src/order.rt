@@ -1,5 +1,6 @@
 // Least, greatest, clamp, the size and the finite test, and a choice by a Bool.
 ghost use mathlib.Core.Path.{_≡_};
+ghost use lib.Ieee.{isNan};
 ghost use Rattle.arithmetic.specs.Order as spec;
 
 // A NaN on the left is not below b, so b is given without a test of its own.
@@ -37,7 +38,7 @@ pub fn is_finite(x: f32) -> bool
 }
 
 pub fn is_nan(x: f32) -> bool
-    ensures { λ r. ⌜ r ≡ lib.Ieee.isNan x ⌝ }
+    ensures { λ r. ⌜ r ≡ isNan x ⌝ }
 {
     x != x
 }

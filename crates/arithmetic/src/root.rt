@@ -1,17 +1,21 @@
-// The IEEE 754 square root of an f32.
+// The IEEE 754 square root of an f32. Rattle has no instruction for it, so the significand's root is guessed from a table, with
+// no division and no branch, and then mended. For every significand the guess is the nearest whole number or one beside it, so
+// neither loop of `near_root` turns more than once; the proof does not rest on that.
 ghost use mathlib.Core.Path.{_≡_};
 ghost use Prim.Native.Nat.{ℕ, _+_, _-_, _*_, _%_, _^_, _<_, _≤_};
 ghost use lib.Ieee.{binary32};
-ghost use Rattle.arithmetic.specs.Root.{Near, nearestRoot, rootOf};
+ghost use Rattle.arithmetic.specs.Root.{NearestWhole, nearestRoot, IsRoot};
 
 // a * b / 2^17, without the digits from 2^32 up.
 fn mul17(a: u64, b: u64) -> u64
-    requires { ⌜ (a < 4294967296) × (b < 4294967296) ⌝ }
-    ensures { λ r. ⌜ r < 4294967296 ⌝ }
+    requires { ⌜ (a < 0x1_0000_0000) × (b < 0x1_0000_0000) ⌝ }
+    ensures { λ r. ⌜ r < 0x1_0000_0000 ⌝ }
 {
-    ((a * b) >> 17) % 4294967296
+    ((a * b) >> 17) % 0x1_0000_0000
 }
 
+// base * 2^34 + bump * 2^21 + slope: with u from 0 to 1 the way through stretch i, the root in sixteenths is near
+// base + slope * u + bump * u * (1 - u). Stretches 64 to 127 are those of odd exponents. tools/root_table makes these numbers.
 fn shape(i: u64) -> u64 {
     match i {
         0 => 3260954618692536875,
@@ -145,22 +149,22 @@ fn shape(i: u64) -> u64 {
     }
 }
 
-// A number near the root of m * 2^(24 - g % 2), of b = g % 2 * 2^23 + m % 2^23. Nothing is proved of how
-// near, and `near_root` mends it.
+// A number near the root of m * 2^(24 - g % 2), where b is g % 2 * 2^23 + m % 2^23. The first seven digits of b name the
+// stretch, the 17 others the way through it.
 fn guess(b: u64) -> u64
-    ensures { λ r. ⌜ r ≤ 33554432 ⌝ }
+    ensures { λ r. ⌜ r ≤ 0x200_0000 ⌝ }
 {
-    let e = shape(b / 131072 % 128);
-    let t: u64 = b % 131072;
-    let bump = mul17((e >> 21) % 8192, mul17(t, 131072 - t));
-    let line = mul17(e % 2097152, t);
-    (((e >> 34) + line + bump) >> 4) % 33554432
+    let e = shape(b / 0x2_0000 % 128);
+    let t: u64 = b % 0x2_0000;
+    let bump = mul17((e >> 21) % 0x2000, mul17(t, 0x2_0000 - t));
+    let line = mul17(e % 0x20_0000, t);
+    (((e >> 34) + line + bump) >> 4) % 0x200_0000
 }
 
 // The whole number nearest to the root of m.
 fn near_root(m: u64, b: u64) -> u64
-    requires { ⌜ (0 < m) × (m < 281474976710656) ⌝ }
-    ensures { λ r. ⌜ Near m r ⌝ }
+    requires { ⌜ (0 < m) × (m < 0x1_0000_0000_0000) ⌝ }
+    ensures { λ r. ⌜ NearestWhole m r ⌝ }
 {
     let mut v: u64 = guess(b);
     while v * v >= m + v {
@@ -172,40 +176,44 @@ fn near_root(m: u64, b: u64) -> u64
     v
 }
 
-// m with 24 zeros after it, or with 23, so that an even power of two is left of m * 2^g. (A shift by
-// 24 - g % 2, or a choice of the two, is compiled to one that waits for the call before this one.)
+// m with 24 zeros after it, or with 23, so that what is left of m * 2^g is an even power of two. (A shift by 24 - g % 2, or a
+// choice of the two, is compiled to one that waits for the call before this one.)
 fn widened(m: u64, g: u64) -> u64
-    requires { ⌜ m < 16777216 ⌝ }
+    requires { ⌜ m < 0x100_0000 ⌝ }
     ensures { λ r. ⌜ r ≡ m * 2 ^ (24 - g % 2) ⌝ }
 {
-    m * 8388608 * (2 - g % 2)
+    m * 0x80_0000 * (2 - g % 2)
 }
 
-// The root of m * 2^g, in units of 2^-150.
+// The root of m * 2^g, in units of 2^-150: m is a significand of 24 digits.
 fn of_parts(m: u64, g: u64) -> f32
-    requires { ⌜ (8388608 ≤ m) × (m < 16777216) × (128 ≤ g) × (g ≤ 410) ⌝ }
+    requires { ⌜ (0x80_0000 ≤ m) × (m < 0x100_0000) × (128 ≤ g) × (g ≤ 410) ⌝ }
     ensures { λ r. ⌜ r ≡ nearestRoot binary32 (m * 2 ^ g) ⌝ }
 {
-    let v = near_root(widened(m, g), g % 2 * 8388608 + m % 8388608);
-    f32::from_bits((((g + 1) / 2 - 13) * 8388608 + v) as u32)
+    let v = near_root(widened(m, g), g % 2 * 0x80_0000 + m % 0x80_0000);
+    f32::from_bits((((g + 1) / 2 - 13) * 0x80_0000 + v) as u32)
 }
 
+// Root. Subnormals are moved up to 24 digits first; NaN, the infinity and the zeros are their own roots.
 pub fn root(x: f32) -> f32
-    ensures { λ r. ⌜ r ≡ rootOf binary32 x ⌝ }
+    ensures { λ r. ⌜ IsRoot x r ⌝ }
 {
     if x != x {
         return x;
     }
     let b: u32 = f32::to_bits(x);
     if b < 0x7f80_0000 {
-        if b < 0x0080_0000 {
+        if b < 0x80_0000 {
             if b == 0 {
                 return x;
             }
             let z: u32 = u32::leading_zeros(b) - 8;
             of_parts((b << z) as u64, (151 - z) as u64)
         } else {
-            of_parts((b % 8388608 + 8388608) as u64, (b / 8388608 + 150) as u64)
+            of_parts(
+                (b % 0x80_0000 + 0x80_0000) as u64,
+                (b / 0x80_0000 + 150) as u64,
+            )
         }
     } else {
         if b == 0x7f80_0000 {
@@ -214,6 +222,6 @@ pub fn root(x: f32) -> f32
         if b == 0x8000_0000 {
             return x;
         }
-        0.0f32 / 0.0f32
+        0.0 / 0.0
     }
 }

@@ -1,9 +1,12 @@
 // What is kept of the Rust's lib.rs: commands, sensors and setpoints. What `guide_capped` never reads is left out.
 use arithmetic::vector::Vec2;
+ghost use mathlib.Core.Path.{_≡_};
+ghost use Rattle.laws.specs.Types as spec;
 
 // Standard gravity, in m/s².
 pub const GRAVITY: f32 = 9.80665;
 
+#[repr(C)]
 pub struct Vec3 {
     pub x: f32,
     pub y: f32,
@@ -92,4 +95,27 @@ pub enum Setpoint {
         yaw_radps: f32,
         thrust: f32,
     },
+}
+
+pub fn at_least_zero(a: OptionF32) -> OptionF32
+    ensures { λ r. ⌜ r ≡ spec.atLeastZero a ⌝ }
+{
+    match a {
+        OptionF32::None => OptionF32::None,
+        OptionF32::Some(n) => {
+            if n >= 0.0 {
+                OptionF32::Some(n)
+            } else {
+                OptionF32::None
+            }
+        }
+    }
+}
+
+// The airspeed where it is usable: a NaN or a number below 0 counts as none.
+pub fn valid_airspeed_mps(state: VehicleState) -> OptionF32
+    ensures { λ r. ⌜ r ≡ spec.validAirspeed state ⌝ }
+{
+    let a = state.airspeed_mps;
+    at_least_zero(a)
 }

@@ -1,4 +1,4 @@
--- The law of `rootOf`: of all the values of binary32, its result is the one nearest to the root. Assumes nothing.
+-- `RootLaw` of `rootOf`: of all the values of binary32, its result is the one nearest to the root. Assumes nothing.
 use mathlib.Core.Path.{_≡_, refl, sym, ap, _∙_, subst}
 use Prim.Native.Nat.{ℕ, zero, suc, _+_, _-_, _*_, _/_, _%_, _^_, _≤_, _<_}
 use native.Mathlib.Nat.{le-trans, le-of-eq, le-of-suc-le-suc, lt-of-lt-of-le, lt-of-le-of-lt, lt-of-not-le, not-le-of-lt, lt-irrefl, le-suc, le-antisymm, add-comm, eq-or-lt-of-le, zero-lt-suc, add-zero, mul-one, mul-assoc, mul-comm, mul-left-comm, mul-right-comm, suc-mul, mul-pos, mul-le-mul, mul-le-mul-right, mul-lt-mul-of-pos-right, lt-of-mul-lt-mul-right, div-one, mul-div-cancel, div-lt-iff-lt-mul, zero-mul}
@@ -14,7 +14,7 @@ use lib.Ieee.{Float, nan, inf, fin, binary32, up, down, fits}
 use lib.Ieee.Fits.{and-l, and-r, down-pos}
 use lib.Ieee.Exact.{HasValue}
 use lib.Ieee.Digits.{back}
-use Rattle.arithmetic.specs.Root.{Near, floorRoot, nearestRoot, rootOf, inUnits, positive, unsigned, NearestToRoot}
+use Rattle.arithmetic.specs.Root.{NearestWhole, floorRoot, nearestRoot, rootOf, inUnits, positive, unsigned, NearestToRoot, RootLaw, IsRoot}
 use Rattle.arithmetic.proofs.root.Squares.{Floor, floor-is, square-suc}
 use Rattle.arithmetic.proofs.root.Rounded.{root-after, root-before, root-least, value}
 use Rattle.arithmetic.proofs.root.Patterns.{same-value}
@@ -86,18 +86,18 @@ pub record Parts (n : ℕ) : Type 0 where
   pub m-le : m ≤ 281474959933440
   pub v-ge : 8388608 ≤ v
   pub v-lt : v < 16777216
-  pub near : Near m v
+  pub near : NearestWhole m v
 
 -- the whole number nearest to the root of m: its whole part q, or q + 1
-nearest-whole : (m : ℕ) → 70368744177664 ≤ m → (v : ℕ) × Near m v
+nearest-whole : (m : ℕ) → 70368744177664 ≤ m → (v : ℕ) × NearestWhole m v
 nearest-whole m lo = go (floorRoot m) (floor-is m) (leb (m - floorRoot m * floorRoot m) (floorRoot m)) (leb→le (m - floorRoot m * floorRoot m) (floorRoot m)) (nleb→lt (m - floorRoot m * floorRoot m) (floorRoot m))
   where
     positive : (q : ℕ) → Floor m q → 0 < q
     positive q f = lt-of-not-le (λ (g : q ≤ 0). not-le-of-lt (f .1) (omega (arith, square-suc q, mul-le-mul g g)))
 
-    go : (q : ℕ) → Floor m q → (b : Bool) → (T b → m - q * q ≤ q) → (T (not b) → q < m - q * q) → (v : ℕ) × Near m v
-    go q f true d u = let l = d tt in let p = positive q f in let a : q * q ≤ m = f .0 in (q, record { after = omega arith; before = omega arith })
-    go q f false d u = let l = u tt in let a : m < suc q * suc q = f .1 in (suc q, record { after = omega (arith, square-suc q); before = omega arith })
+    go : (q : ℕ) → Floor m q → (b : Bool) → (T b → m - q * q ≤ q) → (T (not b) → q < m - q * q) → (v : ℕ) × NearestWhole m v
+    go q f true d u = let l = d tt in let p = positive q f in let a : q * q ≤ m = f .0 in (q, record { above-lower = omega arith; below-upper = omega arith })
+    go q f false d u = let l = u tt in let a : m < suc q * suc q = f .1 in (suc q, record { above-lower = omega (arith, square-suc q); below-upper = omega arith })
 
 rounded-root : (n m h : ℕ) → n ≡ m * 2 ^ (2 * h + 2) → h ≤ 200 → 70368744177664 ≤ m → m ≤ 281474959933440 → Parts n
 rounded-root n m h e H lo hi =
@@ -241,14 +241,7 @@ finite-root m e h =
     (subst (λ (k : ℕ). HasValue (nearestRoot binary32 k) false (p .v * 2 ^ p .h) (2 ^ 149)) (sym (p .is))
     (value (p .m) (p .h) (p .v) (p .h-le) (omega (arith, p .v-ge)) (p .v-lt) (p .m-ge) (omega (arith, p .m-le)) (p .near))))
 
-pub nearest-law : (x : Float) → T (fits binary32 x) → T (positive x) → NearestToRoot x (rootOf binary32 x)
-nearest-law nan h p = absurd p
-nearest-law (inf s) h p = absurd p
-nearest-law (fin true m e) h p = absurd p
-nearest-law (fin false zero e) h p = absurd (lt-irrefl 0 (ltb→lt 0 0 p))
-nearest-law (fin false (suc m) e) h p = finite-root m e h
-
--- ---- and no other value has that property: so the law says which value `rootOf` is
+-- ---- two values with that property are one
 exact-value : (r : Float) → T (fits binary32 r) → T (positive r) → HasValue r false (inUnits r) (2 ^ 149)
 exact-value nan h p = absurd p
 exact-value (inf s) h p = absurd p
@@ -272,9 +265,22 @@ not-less x r t p q l =
     let S = inUnits t in
     not-le-of-lt a (le-trans (le-of-eq (ap (λ (n : ℕ). n * n) (add-comm S R))) (le-of-suc-le-suc (le-trans b (le-suc (4 * inUnits x * 2 ^ 149)))))
 
-pub only-nearest : (x r : Float) → T (fits binary32 x) → T (positive x) → NearestToRoot x r → r ≡ rootOf binary32 x
-only-nearest x r h p q =
-    let t = rootOf binary32 x in
-    let k = nearest-law x h p in
-    let e : inUnits r ≡ inUnits t = le-antisymm (le-of-suc-le-suc (lt-of-not-le (not-less x t r k q))) (le-of-suc-le-suc (lt-of-not-le (not-less x r t q k))) in
-    same-value binary32 false r t (inUnits t) (q .holds) (k .holds) (subst (λ (n : ℕ). HasValue r false n (2 ^ 149)) e (exact-value r (q .holds) (q .above-zero))) (exact-value t (k .holds) (k .above-zero))
+only-one : (x r t : Float) → NearestToRoot x r → NearestToRoot x t → r ≡ t
+only-one x r t p q =
+    let e : inUnits r ≡ inUnits t = le-antisymm (le-of-suc-le-suc (lt-of-not-le (not-less x t r q p))) (le-of-suc-le-suc (lt-of-not-le (not-less x r t p q))) in
+    same-value binary32 false r t (inUnits t) (p .holds) (q .holds)
+    (subst (λ (n : ℕ). HasValue r false n (2 ^ 149)) e (exact-value r (p .holds) (p .above-zero)))
+    (exact-value t (q .holds) (q .above-zero))
+
+-- ---- what `root` promises, of the definition's value
+defined : (x : Float) → T (fits binary32 x) → RootLaw x (rootOf binary32 x)
+unfolding rootOf
+defined nan f = refl
+defined (inf true) f = refl
+defined (inf false) f = refl
+defined (fin s zero e) f = refl
+defined (fin true (suc m) e) f = refl
+defined (fin false (suc m) e) f = let p = finite-root m e f in record { nearest = p; only = λ t q. only-one (fin false (suc m) e) t _ q p }
+
+pub is-root : (x r : Float) → T (fits binary32 x) → r ≡ rootOf binary32 x → IsRoot x r
+is-root x r f h = record { is = h; law = subst (RootLaw x) (sym h) (defined x f) }

@@ -12,7 +12,7 @@ use lib.Ieee.Digits.{size-lt, size-le}
 use lib.Ieee.Exact.{HasValue}
 use lib.Ieee.Nearest.{closest, closest-same}
 use lib.Ieee.Scale.{grid, round-val}
-use Rattle.arithmetic.specs.Root.{Near, nearestRoot}
+use Rattle.arithmetic.specs.Root.{NearestWhole, nearestRoot}
 use Rattle.arithmetic.proofs.root.Squares.{square-suc, square-twice, sticky, sticky-above, sticky-below, sticky-ge}
 
 -- ---- what `compare` says
@@ -132,22 +132,22 @@ module _ (m h : ℕ) where
   square-gt t h' = lt-of-le-of-lt (le-of-eq (quadruple m h)) (lt-of-lt-of-le (mul-lt-mul-of-pos-right h' (mul-pos (pow-pos h) (pow-pos h))) (le-of-eq (sym (mul-mul-mul-comm t (2 ^ h) t (2 ^ h)))))
 
 -- so the root of n = m * 2 ^ (2 * h + 2) lies between (2 * v - 1) * 2 ^ h and (2 * v + 1) * 2 ^ h
-pub root-after : (m h v l : ℕ) → suc l ≡ 2 * v → Near m v → l * 2 ^ h * (l * 2 ^ h) < m * 2 ^ (2 * h + 2)
+pub root-after : (m h v l : ℕ) → suc l ≡ 2 * v → NearestWhole m v → l * 2 ^ h * (l * 2 ^ h) < m * 2 ^ (2 * h + 2)
 root-after m h v l L near =
     let sl : l * l + 2 * l + 1 ≡ 4 * (v * v) = sym (square-suc l) ∙ ap (λ (x : ℕ). x * x) L ∙ square-twice v in
-    let a : v * v < m + v = near .after in
+    let a : v * v < m + v = near .above-lower in
     square-lt m h l (omega arith)
 
-pub root-before : (m h v : ℕ) → Near m v → m * 2 ^ (2 * h + 2) < suc (2 * v) * 2 ^ h * (suc (2 * v) * 2 ^ h)
+pub root-before : (m h v : ℕ) → NearestWhole m v → m * 2 ^ (2 * h + 2) < suc (2 * v) * 2 ^ h * (suc (2 * v) * 2 ^ h)
 root-before m h v near =
     let su : suc (2 * v) * suc (2 * v) ≡ 4 * (v * v) + 2 * (2 * v) + 1 = square-suc (2 * v) ∙ ap (λ (x : ℕ). x + 2 * (2 * v) + 1) (square-twice v) in
-    let b : m ≤ v * v + v = near .before in
+    let b : m ≤ v * v + v = near .below-upper in
     square-gt m h (suc (2 * v)) (omega arith)
 
 pub root-least : (m h : ℕ) → 70368744177664 ≤ m → 16777216 * 2 ^ h * (16777216 * 2 ^ h) ≤ m * 2 ^ (2 * h + 2)
 root-least m h lo = square-le m h 16777216 (omega arith)
 
-pub value : (m h v : ℕ) → h ≤ 200 → 0 < v → v < 16777216 → 70368744177664 ≤ m → m < 281474976710656 → Near m v → HasValue (nearestRoot binary32 (m * 2 ^ (2 * h + 2))) false (v * 2 ^ h) (2 ^ 149)
+pub value : (m h v : ℕ) → h ≤ 200 → 0 < v → v < 16777216 → 70368744177664 ≤ m → m < 281474976710656 → NearestWhole m v → HasValue (nearestRoot binary32 (m * 2 ^ (2 * h + 2))) false (v * 2 ^ h) (2 ^ 149)
 value m h v H pos small lo hi near =
     let L : suc (2 * v - 1) ≡ 2 * v = omega arith in
     rounded (m * 2 ^ (2 * h + 2)) h v (2 * v - 1) L H small (root-least m h lo) (square-gt m h 33554432 (omega arith)) (root-after m h v (2 * v - 1) L near) (root-before m h v near)

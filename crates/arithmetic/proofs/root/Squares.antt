@@ -8,7 +8,7 @@ use lib.Dec.{T, leb, eqb, leb→le, nleb→lt, eqb→eq, lit≤}
 use lib.Pow.{pow-mono}
 use lib.Ieee.{size}
 use lib.Ieee.Digits.{size-lt}
-use Rattle.arithmetic.specs.Root.{digits, floorRoot}
+use Rattle.arithmetic.specs.Root.{floorRootBy, floorRoot}
 
 pub square-suc : (r : ℕ) → suc r * suc r ≡ r * r + 2 * r + 1
 square-suc r = suc-mul r (suc r) ∙ ap (λ (x : ℕ). x + suc r) (mul-suc r r) ∙ tidy (r * r) r
@@ -51,10 +51,10 @@ step n s h = go (leb (suc (2 * s) * suc (2 * s)) n) (leb→le (suc (2 * s) * suc
     go true y z = (y tt, subst (λ (x : ℕ). n < x * x) (sym same) (lt-of-lt-of-le (below n (suc s * suc s) (h .1)) (le-of-eq (sym e))))
     go false y z = (le-trans (le-of-eq (square-twice s)) (above n (s * s) (h .0)), z tt)
 
-digits-is : (k n : ℕ) → n < 4 ^ k → Floor n (digits k n)
-unfolding digits
-digits-is zero n h = (zero-le, h)
-digits-is (suc k) n h = step n (digits k (n / 4)) (digits-is k (n / 4) (div-lt-iff-lt-mul (zero-lt-suc 3) .1 (subst (λ (x : ℕ). n < x) (pow-suc 4 k) h)))
+floorRootBy-is : (k n : ℕ) → n < 4 ^ k → Floor n (floorRootBy k n)
+unfolding floorRootBy
+floorRootBy-is zero n h = (zero-le, h)
+floorRootBy-is (suc k) n h = step n (floorRootBy k (n / 4)) (floorRootBy-is k (n / 4) (div-lt-iff-lt-mul (zero-lt-suc 3) .1 (subst (λ (x : ℕ). n < x) (pow-suc 4 k) h)))
 
 two-four : (k : ℕ) → 2 ^ k ≤ 4 ^ k
 two-four zero = lit≤ tt
@@ -62,9 +62,9 @@ two-four (suc k) = le-trans (le-of-eq (pow-suc 2 k)) (le-trans (mul-le-mul (two-
 
 pub floor-is : (n : ℕ) → Floor n (floorRoot n)
 unfolding floorRoot
-floor-is n = digits-is (size n) n (lt-of-lt-of-le (size-lt n) (two-four (size n)))
+floor-is n = floorRootBy-is (size n) n (lt-of-lt-of-le (size-lt n) (two-four (size n)))
 
--- ---- twice the root, with the half that says that it is not whole: a number t lies below the root, or above it, just where 2 * t lies below or above this
+-- ---- twice the root, with 1 for a root that is not whole: a number t lies below or above the root just where 2 * t lies below or above this
 abbrev pub sticky : ℕ → ℕ
 sticky n = 2 * floorRoot n + cond (eqb (floorRoot n * floorRoot n) n) 0 1
 

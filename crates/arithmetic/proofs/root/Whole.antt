@@ -1,4 +1,4 @@
--- The steps of `finish`, `of_parts` and `root` on plain numbers. Assumes nothing.
+-- The steps of `near_root`, `of_parts` and `root` on plain numbers. Assumes nothing.
 use mathlib.Core.Path.{_≡_, refl, sym, ap, _∙_, subst}
 use Prim.Native.Nat.{ℕ, zero, suc, _+_, _-_, _*_, _/_, _%_, _^_, _≤_, _<_}
 use native.Mathlib.Nat.{le-trans, le-of-eq, le-of-suc-le-suc, lt-of-lt-of-le, lt-of-not-le, not-le-of-lt, lt-irrefl, mul-le-mul, mul-le-mul-right, mul-lt-mul-of-pos-right, mul-assoc, mul-comm, mul-right-comm, mul-pos, zero-mul, mod-eq-of-lt, mul-div-cancel}
@@ -14,26 +14,26 @@ use lib.Ieee.Fits.{round-fits, down-pos}
 use lib.Ieee.Bits.{ofBits-fits, ofBits-toBits, toBits-lt, nanBits-above}
 use lib.Ieee.Compare.{differs-from-itself, nan-differs}
 use lib.Ieee.Exact.{HasValue, odd-sign}
-use Rattle.arithmetic.specs.Root.{Near, nearestRoot, rootOf}
+use Rattle.arithmetic.specs.Root.{NearestWhole, nearestRoot, rootOf}
 use Rattle.arithmetic.proofs.root.Squares.{sticky}
 use Rattle.arithmetic.proofs.root.Rounded.{nearest-is, value}
 use Rattle.arithmetic.proofs.root.Patterns.{same-value, ofBits-is, normal-value, subnormal-value}
 
 -- ---- `near_root`
-pub least : (m v : ℕ) → 70368744177664 ≤ m → Near m v → 8388608 ≤ v
+pub least : (m v : ℕ) → 70368744177664 ≤ m → NearestWhole m v → 8388608 ≤ v
 least m v lo near =
-    let b : m ≤ v * v + v = near .before in
+    let b : m ≤ v * v + v = near .below-upper in
     le-of-suc-le-suc (lt-of-not-le (λ (g : suc v ≤ 8388608). not-le-of-lt lo (let k : v ≤ 8388607 = omega arith in omega (arith, mul-le-mul k k))))
 
-pub greatest : (m v : ℕ) → m ≤ 281474959933440 → Near m v → v < 16777216
+pub greatest : (m v : ℕ) → m ≤ 281474959933440 → NearestWhole m v → v < 16777216
 greatest m v hi near =
-    let a : v * v < m + v = near .after in
+    let a : v * v < m + v = near .above-lower in
     lt-of-not-le (λ (g : 16777216 ≤ v). not-le-of-lt a (omega (arith, mul-le-mul-right v g)))
 
 pub nearest-fits : (n : ℕ) → T (fits binary32 (nearestRoot binary32 n))
 nearest-fits n = subst (λ (x : Float). T (fits binary32 x)) (sym (nearest-is n)) (round-fits binary32 false (sticky n) (2 ^ 151))
 
-pub built : (m h v : ℕ) → h ≤ 200 → 70368744177664 ≤ m → m ≤ 281474959933440 → Near m v → ofBits binary32 (h * 8388608 + v) ≡ nearestRoot binary32 (m * 2 ^ (2 * h + 2))
+pub built : (m h v : ℕ) → h ≤ 200 → 70368744177664 ≤ m → m ≤ 281474959933440 → NearestWhole m v → ofBits binary32 (h * 8388608 + v) ≡ nearestRoot binary32 (m * 2 ^ (2 * h + 2))
 built m h v H lo hi near =
     let a = least m v lo near in
     let b = greatest m v hi near in

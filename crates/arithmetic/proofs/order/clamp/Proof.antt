@@ -1,19 +1,18 @@
+use Rattle.arithmetic.specs.Order.{clamp}
 use Rattle.arithmetic.proofs.order.clamp.Statement.{statement}
 use Rattle.arithmetic.proofs.order.clamp.Tie as tie
-use Rattle.arithmetic.proofs.order.clamp.Reads as reads
-use Rattle.arithmetic.proofs.order.clamp.Lts as lts
 
--- src/order.rt:28:9
 returns : tie.Need-returns
-returns c = ?
+unfolding clamp
+returns c = rw (c .if1 .taken)
 
--- src/order.rt:24:1
 returns-2 : tie.Need-returns-2
-returns-2 c = ?
+unfolding clamp
+returns-2 c = simp (c .before .if1 .left, c .if2 .taken)
 
--- src/order.rt:24:1
 returns-3 : tie.Need-returns-3
-returns-3 c = ?
+unfolding clamp
+returns-3 c = simp (c .before .if1 .left, c .if2 .left)
 
 pub clamp-spec : {M : Type 1} → statement M
 clamp-spec = tie.close (tie.spec returns returns-2 returns-3)

@@ -1,19 +1,16 @@
+use mathlib.Core.Path.{sym}
+use Rattle.arithmetic.proofs.Bounds.{greatest-nan, greatest-above, greatest-not-above}
 use Rattle.arithmetic.proofs.order.greatest.Statement.{statement}
 use Rattle.arithmetic.proofs.order.greatest.Tie as tie
-use Rattle.arithmetic.proofs.order.greatest.Reads as reads
-use Rattle.arithmetic.proofs.order.greatest.Lts as lts
 
--- src/order.rt:19:9
 returns : tie.Need-returns
-returns c = ?
+returns c = sym (greatest-nan (c .before .args .a) (c .before .args .b) (c .if1 .taken))
 
--- src/order.rt:15:1
 returns-2 : tie.Need-returns-2
-returns-2 c = ?
+returns-2 c = sym (greatest-above (c .before .before .args .a) (c .before .before .args .b) (c .if2 .taken))
 
--- src/order.rt:15:1
 returns-3 : tie.Need-returns-3
-returns-3 c = ?
+returns-3 c = sym (greatest-not-above (c .before .before .args .a) (c .before .before .args .b) (c .before .if1 .left) (c .if2 .left))
 
 pub greatest-spec : {M : Type 1} → statement M
 greatest-spec = tie.close (tie.spec returns returns-2 returns-3)

@@ -3,7 +3,7 @@ use mathlib.Core.Path.{_≡_, ap, _∙_, subst}
 use Prim.Native.Nat.{ℕ, _+_, _-_, _*_, _/_, _%_, _^_, _<_}
 use native.Mathlib.Omega.{arith}
 use lib.Ieee.{binary32}
-use Rattle.arithmetic.specs.Root.{Near, nearestRoot}
+use Rattle.arithmetic.specs.Root.{NearestWhole, nearestRoot}
 use Rattle.arithmetic.proofs.root.Whole.{Widened, widened, half-power, greatest, built, no-nan}
 use borrow.Author.Needs.{needs}
 use Rattle.arithmetic.proofs.root.of_parts.Statement.{statement}
@@ -15,8 +15,8 @@ moved c = c .args .m * 2 ^ (24 - c .args .g % 2)
 wide : (c : tie.Start) → Widened (c .args .m) (moved c)
 wide c = widened (c .args .m) (c .args .g) (c .pre .0) (c .pre .1)
 
-near : (c : tie.After-near-root) → Near (moved (c .before .before)) (c .near-root .result)
-near c = subst (λ (n : ℕ). Near n (c .near-root .result)) (c .before .widened .ensures) (c .near-root .ensures)
+near : (c : tie.After-near-root) → NearestWhole (moved (c .before .before)) (c .near-root .result)
+near c = subst (λ (n : ℕ). NearestWhole n (c .near-root .result)) (c .before .widened .ensures) (c .near-root .ensures)
 
 small : (c : tie.After-near-root) → c .near-root .result < 16777216
 small c = greatest (moved (c .before .before)) (c .near-root .result) (wide (c .before .before) .high) (near c)

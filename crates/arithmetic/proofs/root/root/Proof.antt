@@ -6,7 +6,8 @@ use lib.Dec.{T}
 use lib.Count.{leadingZeros}
 use lib.Ieee.{Float, binary32, fits, ofBits, toBits}
 use lib.Ieee.Bits.{ofBits-toBits, toBits-lt}
-use Rattle.arithmetic.specs.Root.{nearestRoot, rootOf}
+use Rattle.arithmetic.specs.Root.{nearestRoot, rootOf, IsRoot}
+use Rattle.arithmetic.proofs.root.Law.{is-root}
 use Rattle.arithmetic.proofs.root.Whole.{Moved, moved, moved-whole, nan-root, no-nan-value, zero-root, minus-zero-root, infinity-root, zero-by-zero, no-root, normal-root, subnormal-root}
 use borrow.Author.Needs.{needs}
 use Rattle.arithmetic.proofs.root.root.Statement.{statement}
@@ -23,16 +24,20 @@ pattern c = toBits binary32 (c .args .x)
 value : (c : tie.Start) → ofBits binary32 (pattern c) ≡ c .args .x
 value c = ofBits-toBits binary32 (c .args .x) (held c)
 
+-- the definition's value is the root
+defined : (c : tie.Start) (r : Float) → r ≡ rootOf binary32 (c .args .x) → IsRoot (c .args .x) r
+defined c r h = is-root (c .args .x) r (held c) h
+
 -- a result for the pattern is one for x
-at : (c : tie.Start) (r : Float) → r ≡ rootOf binary32 (ofBits binary32 (pattern c)) → r ≡ rootOf binary32 (c .args .x)
-at c r h = h ∙ ap (rootOf binary32) (value c)
+at : (c : tie.Start) (r : Float) → r ≡ rootOf binary32 (ofBits binary32 (pattern c)) → IsRoot (c .args .x) r
+at c r h = defined c r (h ∙ ap (rootOf binary32) (value c))
 
 -- x itself, where its pattern is b
-itself : (c : tie.Start) (b : ℕ) → pattern c ≡ b → ofBits binary32 b ≡ rootOf binary32 (ofBits binary32 b) → c .args .x ≡ rootOf binary32 (c .args .x)
-itself c b e h = subst (λ (x : Float). x ≡ rootOf binary32 x) (ap (ofBits binary32) (sym e) ∙ value c) h
+itself : (c : tie.Start) (b : ℕ) → pattern c ≡ b → ofBits binary32 b ≡ rootOf binary32 (ofBits binary32 b) → IsRoot (c .args .x) (c .args .x)
+itself c b e h = defined c (c .args .x) (subst (λ (x : Float). x ≡ rootOf binary32 x) (ap (ofBits binary32) (sym e) ∙ value c) h)
 
 returns : tie.Need-returns
-returns c = nan-root (c .before .args .x) (c .if1 .taken)
+returns c = defined (c .before) (c .before .args .x) (nan-root (c .before .args .x) (c .if1 .taken))
 
 float-to-bits-b : tie.Need-float-to-bits-b
 float-to-bits-b c = no-nan-value (c .before .args .x) (c .if1 .left)

@@ -1,31 +1,23 @@
-use borrow.Author.Needs.{needs}
+use Rattle.arithmetic.specs.Trigonometry.{arctangent}
+use Rattle.arithmetic.proofs.Bounds.{ne-self}
 use Rattle.arithmetic.proofs.trigonometry.arctangent.Statement.{statement}
 use Rattle.arithmetic.proofs.trigonometry.arctangent.Tie as tie
-use Rattle.arithmetic.proofs.trigonometry.arctangent.Reads as reads
-use Rattle.arithmetic.proofs.trigonometry.arctangent.Lts as lts
-use Rattle.arithmetic.proofs.order.size.Reads as size-reads
-use Rattle.arithmetic.proofs.trigonometry.arctangent_of_size.Reads as arctangent-of-size-reads
 
--- src/trigonometry.rt:104:9
 returns : tie.Need-returns
-returns c = ?
+unfolding arctangent
+returns c = rw (← ne-self (c .before .args .v), c .if1 .taken)
 
--- src/trigonometry.rt:106:32
-size-requires : tie.Need-size-requires
-size-requires c κs = search needs
-
--- src/trigonometry.rt:106:9
-arctangent-of-size-requires : tie.Need-arctangent-of-size-requires
-arctangent-of-size-requires c κs = search needs
-
--- src/trigonometry.rt:100:1
 returns-2 : tie.Need-returns-2
-returns-2 c = ?
+unfolding arctangent
+returns-2 c =
+    let s = c .before .before .before .before in
+    rw (← ne-self (s .args .v), c .before .before .before .if1 .left, c .if2 .taken, ← c .before .before .size .ensures, ← c .before .arctangent-of-size .ensures)
 
--- src/trigonometry.rt:100:1
 returns-3 : tie.Need-returns-3
-returns-3 c = ?
+unfolding arctangent
+returns-3 c =
+    let s = c .before .before .before .before in
+    rw (← ne-self (s .args .v), c .before .before .before .if1 .left, c .if2 .left, ← c .before .before .size .ensures, ← c .before .arctangent-of-size .ensures)
 
 pub arctangent-spec : {M : Type 1} → statement M
-arctangent-spec =
-    tie.close (tie.spec returns size-requires arctangent-of-size-requires returns-2 returns-3)
+arctangent-spec = tie.close (tie.spec returns (λ c κs. tt) (λ c κs. tt) returns-2 returns-3)

@@ -1,25 +1,18 @@
-use borrow.Author.Needs.{needs}
+use Rattle.arithmetic.specs.Trigonometry.{quarterTurn}
 use Rattle.arithmetic.proofs.trigonometry.quarter_turn.Statement.{statement}
 use Rattle.arithmetic.proofs.trigonometry.quarter_turn.Tie as tie
-use Rattle.arithmetic.proofs.trigonometry.quarter_turn.Reads as reads
-use Rattle.arithmetic.proofs.trigonometry.quarter_turn.Lts as lts
-use Rattle.arithmetic.proofs.order.is_negative.Reads as is-negative-reads
 
--- src/trigonometry.rt:120:9
 returns : tie.Need-returns
-returns c = ?
+unfolding quarterTurn
+returns c = rw (c .if1 .taken)
 
--- src/trigonometry.rt:122:8
-is-negative-requires : tie.Need-is-negative-requires
-is-negative-requires c κs = search needs
-
--- src/trigonometry.rt:116:1
 returns-2 : tie.Need-returns-2
-returns-2 c = ?
+unfolding quarterTurn
+returns-2 c = rw (c .before .before .if1 .left, ← c .before .is-negative .ensures, c .if2 .taken)
 
--- src/trigonometry.rt:116:1
 returns-3 : tie.Need-returns-3
-returns-3 c = ?
+unfolding quarterTurn
+returns-3 c = rw (c .before .before .if1 .left, ← c .before .is-negative .ensures, c .if2 .left)
 
 pub quarter-turn-spec : {M : Type 1} → statement M
-quarter-turn-spec = tie.close (tie.spec returns is-negative-requires returns-2 returns-3)
+quarter-turn-spec = tie.close (tie.spec returns (λ c κs. tt) returns-2 returns-3)

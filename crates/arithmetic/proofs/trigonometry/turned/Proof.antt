@@ -1,21 +1,22 @@
-use borrow.Author.Needs.{needs}
+use mathlib.Core.Path.{refl, sym, ap, _∙_, subst}
+use mathlib.Core.Bool.{true}
+use lib.Dec.{T}
+use lib.Ieee.{Float, binary32, fits, lt}
+use Rattle.arithmetic.specs.Constants.{tau}
+use Rattle.arithmetic.proofs.Rounding.{rem-short}
 use Rattle.arithmetic.proofs.trigonometry.turned.Statement.{statement}
 use Rattle.arithmetic.proofs.trigonometry.turned.Tie as tie
-use Rattle.arithmetic.proofs.trigonometry.turned.Reads as reads
-use Rattle.arithmetic.proofs.trigonometry.turned.Lts as lts
-use Rattle.arithmetic.proofs.order.size.Reads as size-reads
 
--- src/trigonometry.rt:31:8
-size-requires : tie.Need-size-requires
-size-requires c κs = search needs
+held : (c : tie.Start) → T (fits binary32 (c .args .r))
+held c = subst T (sym (c .good .0 .1)) tt
 
--- src/trigonometry.rt:28:1
 returns : tie.Need-returns
-returns c = ?
+returns c =
+    rem-short (c .before .before .args .r) (held (c .before .before))
+    (ap (λ (x : Float). lt x tau) (sym (c .before .size .ensures)) ∙ c .if1 .taken)
 
--- src/trigonometry.rt:28:1
 returns-2 : tie.Need-returns-2
-returns-2 c = search needs
+returns-2 c = refl
 
 pub turned-spec : {M : Type 1} → statement M
-turned-spec = tie.close (tie.spec size-requires returns returns-2)
+turned-spec = tie.close (tie.spec (λ c κs. tt) returns returns-2)

@@ -1,0 +1,5 @@
+-- Laws about the definitions that the contracts name, for this crate and those above it.
+pub mod Bounds
+pub mod Rounding
+pub mod Signs
+pub mod Sums

@@ -1,0 +1,75 @@
+-- The sign bit of a number: what is left when it is cleared, and whether it stands. Assumes nothing.
+use mathlib.Core.Path.{_≡_, refl, sym, ap, _∙_, subst}
+use mathlib.Core.Bool.{Bool, true, false, cond, not}
+use Prim.Native.Nat.{ℕ, zero, suc, _+_, _*_, _%_, _<_, _≤_}
+use native.Mathlib.Omega.{arith}
+use lib.Dec.{T, leb}
+use lib.IntN.{ℤ}
+use borrow.Author.Tests.{le-leb, lt-leb}
+use lib.Ieee.{Float, nan, inf, fin, Format, binary32, top, fits, isNan, ofBits, toBits}
+use lib.Ieee.Bits.{ofBits-toBits, toBits-lt}
+use Rattle.arithmetic.specs.Order.{size, negative}
+use Rattle.arithmetic.proofs.Bounds.{never′}
+
+any-sign : (s t : Bool) (m : ℕ) (e : ℤ) → T (fits binary32 (fin s m e)) → T (fits binary32 (fin t m e))
+unfolding fits
+any-sign s t zero e h = h
+any-sign s t (suc m) e h = h
+
+regroup : (c a b : ℕ) → c + a + b ≡ c + (0 + a + b)
+regroup c a b = omega arith
+
+sign-apart : (s : Bool) (m : ℕ) (e : ℤ) → toBits binary32 (fin s m e) ≡ cond s 2147483648 0 + toBits binary32 (fin false m e)
+unfolding toBits
+sign-apart s m e = regroup (cond s 2147483648 0) _ _
+
+half : (x y : ℕ) → y ≡ 2147483648 + x → y < 4294967296 → x < 2147483648
+half x y e h = omega arith
+
+below-sign : (s : Bool) (m : ℕ) (e : ℤ) → T (fits binary32 (fin s m e)) → toBits binary32 (fin false m e) < 2147483648
+below-sign s m e h =
+    half (toBits binary32 (fin false m e)) (toBits binary32 (fin true m e)) (sign-apart true m e)
+    (toBits-lt binary32 (fin true m e) (any-sign s true m e h))
+
+cleared : (s : Bool) (x : ℕ) → x < 2147483648 → (cond s 2147483648 0 + x) % 2147483648 ≡ x
+cleared true x h = omega arith
+cleared false x h = omega arith
+
+stands : (s : Bool) (x : ℕ) → x < 2147483648 → leb 2147483648 (cond s 2147483648 0 + x) ≡ s
+stands true x h = le-leb 2147483648 (2147483648 + x) (omega arith)
+stands false x h = lt-leb 2147483648 (0 + x) (omega arith)
+
+infinite : (s : Bool) → ofBits binary32 (toBits binary32 (inf s) % 2147483648) ≡ inf false
+unfolding ofBits toBits
+infinite true = refl
+infinite false = refl
+
+-- the bits without the sign bit are the size's
+pub size-bits : (v : Float) → T (fits binary32 v) → isNan v ≡ false → ofBits binary32 (toBits binary32 v % 2147483648) ≡ size v
+unfolding size isNan
+size-bits nan h n = never′ n
+size-bits (inf s) h n = infinite s
+size-bits (fin s m e) h n =
+    ap (λ (b : ℕ). ofBits binary32 (b % 2147483648)) (sign-apart s m e)
+    ∙ ap (ofBits binary32) (cleared s (toBits binary32 (fin false m e)) (below-sign s m e h))
+    ∙ ofBits-toBits binary32 (fin false m e) (any-sign s false m e h)
+
+infinite-sign : (s : Bool) → leb 2147483648 (toBits binary32 (inf s)) ≡ s
+unfolding toBits
+infinite-sign true = refl
+infinite-sign false = refl
+
+pub sign-bit : (v : Float) → T (fits binary32 v) → isNan v ≡ false → leb 2147483648 (toBits binary32 v) ≡ negative v
+unfolding negative isNan
+sign-bit nan h n = never′ n
+sign-bit (inf s) h n = infinite-sign s
+sign-bit (fin s m e) h n = ap (leb 2147483648) (sign-apart s m e) ∙ stands s (toBits binary32 (fin false m e)) (below-sign s m e h)
+
+pub size-number : (v : Float) → isNan v ≡ false → isNan (size v) ≡ false
+unfolding size isNan
+size-number nan n = n
+size-number (inf s) n = refl
+size-number (fin s m e) n = refl
+
+pub is-number : (v : Float) → isNan v ≡ false → T (not (isNan v))
+is-number v n = subst (λ (b : Bool). T (not b)) (sym n) tt
