@@ -1,0 +1,2 @@
+-- Lemmas of the entries' proofs.
+mod Contracts
