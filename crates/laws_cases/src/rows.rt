@@ -41,28 +41,22 @@ fn wide(b: u8) -> u32
     b as u32
 }
 
-// Word n of a row.
-pub fn word(row: &[u8; 200], n: usize) -> u32
-    requires { ⌜ n ≤ 49 ⌝ }
-{
-    let at = n * 4;
+// Word n after a word of a row, which has 50.
+pub fn word(row: &[u8; 200], from: usize, n: usize) -> u32 {
+    let at = (from % 50 + n % 50) % 50 * 4;
     wide(row[at])
         + wide(row[at + 1]) * 0x100
         + wide(row[at + 2]) * 0x1_0000
         + wide(row[at + 3]) * 0x100_0000
 }
 
-pub fn number(row: &[u8; 200], n: usize) -> f32
-    requires { ⌜ n ≤ 49 ⌝ }
-{
-    number_of(word(row, n))
+pub fn number(row: &[u8; 200], from: usize, n: usize) -> f32 {
+    number_of(word(row, from, n))
 }
 
-// Whether word n of a row is a number's bits.
-pub fn same(row: &[u8; 200], n: usize, x: f32) -> bool
-    requires { ⌜ n ≤ 49 ⌝ }
-{
-    bits(x) == word(row, n)
+// Whether word n after a word of a row is a number's bits.
+pub fn same(row: &[u8; 200], from: usize, n: usize, x: f32) -> bool {
+    bits(x) == word(row, from, n)
 }
 
 // Reads a row of some words and tries it. A row that is cut short is not right.
