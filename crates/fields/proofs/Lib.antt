@@ -3,3 +3,4 @@ pub mod NumberLaw
 pub mod MapLaw
 pub mod FieldLaw
 pub mod WriteLaw
+pub mod RecordLaw
