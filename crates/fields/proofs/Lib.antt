@@ -4,3 +4,4 @@ pub mod MapLaw
 pub mod FieldLaw
 pub mod WriteLaw
 pub mod RecordLaw
+pub mod LawsProof

@@ -140,6 +140,20 @@ unfolding floatsOf bitsOf AreF32
 floats-back [] h = refl
 floats-back (x ∷ xs) h = rw (ofBits-toBits binary32 x (h .0)) (ap (λ (l : List Float). x ∷ l) (floats-back xs (h .1)))
 
+-- the same as one test that is computed
+abbrev pub allFit : List Float → Bool
+allFit [] = true
+allFit (x ∷ xs) = cond (fits binary32 x) (allFit xs) false
+
+pub all-fit : (xs : List Float) → T (allFit xs) → AreF32 xs
+unfolding AreF32
+all-fit [] h = tt
+all-fit (x ∷ xs) h = go (fits binary32 x) refl h (λ (k : T (allFit xs)). all-fit xs k)
+  where
+    go : (b : Bool) → fits binary32 x ≡ b → T (cond b (allFit xs) false) → (T (allFit xs) → AreF32 xs) → T (fits binary32 x) × AreF32 xs
+    go true e k r = (subst T (sym e) tt, r k)
+    go false e k r = absurd k
+
 -- what is read is what an f32 holds
 pub floats-are : (ns : List ℕ) → AreF32 (floatsOf ns)
 unfolding floatsOf AreF32

@@ -1,3 +1,4 @@
 -- Laws of the two records.
 pub mod ConfigLaw
+pub mod ConfigBack
 pub mod CallLaw
