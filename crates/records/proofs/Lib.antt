@@ -2,3 +2,4 @@
 pub mod ConfigLaw
 pub mod ConfigBack
 pub mod CallLaw
+pub mod CallBack
