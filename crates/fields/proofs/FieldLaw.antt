@@ -261,10 +261,21 @@ body-long (f ∷ fs) (v ∷ vs) m h = go (eqb (m % 2) 1) (body-long fs vs (m / 2
     go true ih = length-append (bytesOf (f .bytes) v) (bodyOf fs (m / 2) vs) ∙ omega (arith, bytes-long (f .bytes) v)
     go false ih = omega arith
 
-numbers-long : (ds : List ℕ) → length (numberFields ds) ≡ length ds
+pub numbers-long : (ds : List ℕ) → length (numberFields ds) ≡ length ds
 unfolding numberFields
 numbers-long [] = refl
 numbers-long (d ∷ ds) = ap suc (numbers-long ds)
+
+-- one value for each field
+pub values-long : (fs : List Field) (m : ℕ) (s : List ℕ) → length (valuesAt fs m s) ≡ length fs
+unfolding valuesAt
+values-long [] m s = refl
+values-long (f ∷ fs) m s = go (eqb (m % 2) 1) (λ (r : List ℕ). values-long fs (m / 2) r)
+  where
+    go : (b : Bool) → ((r : List ℕ) → length (valuesAt fs (m / 2) r) ≡ length fs)
+        → length (cond b (numberAt (f .bytes) s ∷ valuesAt fs (m / 2) (drop (f .bytes) s)) (f .missing ∷ valuesAt fs (m / 2) s)) ≡ suc (length fs)
+    go true ih = ap suc (ih (drop (f .bytes) s))
+    go false ih = ap suc (ih s)
 
 pub body-numbers : (vs : List ℕ) (m : ℕ) → length (bodyOf (numberFields vs) m vs) ≡ 4 * ones (length vs) m
 body-numbers vs m = body-long (numberFields vs) vs m (sym (numbers-long vs)) ∙ size-numbers vs m

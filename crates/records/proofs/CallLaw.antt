@@ -16,7 +16,7 @@ use Rattle.fields.specs.Bytes.{numberAt, bytesOf, putAt}
 use Rattle.fields.specs.Fields.{Field, ones, named, stands, sizeOf, valuesAt, isWritten, bitOf, mapOf, bodyOf, numberFields}
 use Rattle.fields.specs.Numbers.{floatsOf, bitsOf}
 use Rattle.fields.proofs.NumberLaw.{bytes-long}
-use Rattle.fields.proofs.MapLaw.{bits-long}
+use Rattle.fields.proofs.MapLaw.{bits-length}
 use Rattle.fields.proofs.FieldLaw.{rest-is, size-numbers, put-none, put-next, body-long, body-missing}
 use Rattle.records.specs.declared.call.ByteRead.{ByteRead}
 use Rattle.records.specs.declared.call.Call.{Call}
@@ -226,6 +226,6 @@ module _ (c : Call) (p : Parts) (v : List ℕ) (m : ℕ) (ep : p ≡ partsOf c) 
 
   pub record-long : (n : ℕ) → n ≡ sizeOf callFields m → 4 + n ≡ length (callRecord c)
   record-long n en =
-      let long : length (p .kind ∷ p .regime ∷ v) ≡ length callFields = rw (ev, bits-long (p .numbers), ep, parts-long c, fields-long) in
+      let long : length (p .kind ∷ p .regime ∷ v) ≡ length callFields = rw (ev, bits-length (p .numbers), ep, parts-long c, fields-long) in
       let body : length (bodyOf callFields m (p .kind ∷ p .regime ∷ v)) ≡ sizeOf callFields m = body-long callFields (p .kind ∷ p .regime ∷ v) m long in
       sym (ap length (sym record-is) ∙ length-append (bytesOf 4 m) (bodyOf callFields m (p .kind ∷ p .regime ∷ v)) ∙ omega (arith, bytes-long 4 m, body))
