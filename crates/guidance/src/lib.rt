@@ -1,2 +1,4 @@
 // The public guidance calls.
+mod commands;
 pub mod plane;
+mod waypoint;

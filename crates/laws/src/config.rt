@@ -8,6 +8,7 @@ ghost use mathlib.Core.Bool.{cond};
 ghost use Rattle.laws.specs.Config as spec;
 
 // Fields 15 to 30: total energy control.
+#[repr(C)]
 pub struct TecsConfig {
     pub time_constant_s: f32,
     pub max_climb_mps: f32,
@@ -28,6 +29,7 @@ pub struct TecsConfig {
 }
 
 // Fields 1 to 14 (max_rate_radps is three), the energy configuration, and fields 31 to 33.
+#[repr(C)]
 pub struct PlaneGuidanceConfig {
     pub max_bank_rad: f32,
     pub max_pitch_up_rad: f32,

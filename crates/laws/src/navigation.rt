@@ -52,6 +52,7 @@ pub struct Aim {
 }
 
 // A PI loop with a clamped output; it holds only its integral.
+#[repr(C)]
 pub struct PiLoop {
     pub integral: f32,
 }

@@ -22,6 +22,7 @@ const MIN_COS2_BANK: f32 = 0.1;
 const THRUST_INTEGRAL_MARGIN: f32 = 0.1;
 
 // Height and airspeed demands, slewed toward the targets.
+#[repr(C)]
 pub struct Demand {
     pub slewed_height_m: f32,
     pub height_m: f32,
@@ -31,6 +32,7 @@ pub struct Demand {
 // The stored energy state: f32 and u32 only, since a host holds it. `seeded` and `underspeed` are flags, 0 or not 0.
 // The Rust's three Options (demand, filtered airspeed, steady acceleration) are set and cleared together, so that
 // one flag, `seeded`, says of all three whether they are present; absent, they are +0.
+#[repr(C)]
 pub struct Tecs {
     pub seeded: u32,
     pub demand: Demand,

@@ -6,6 +6,7 @@ ghost use Rattle.laws.specs.Types as spec;
 // Standard gravity, in m/s².
 pub const GRAVITY: f32 = 9.80665;
 
+#[repr(C)]
 pub struct Vec3 {
     pub x: f32,
     pub y: f32,

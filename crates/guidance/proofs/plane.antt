@@ -1,0 +1,3 @@
+-- Lemmas of the entries' proofs.
+mod Contracts
+mod Orders

@@ -1,0 +1,2 @@
+-- Lemmas of a waypoint's proofs.
+mod Finite

@@ -1,0 +1,20 @@
+use Rattle.guidance.specs.Plane.{waypoint}
+use Rattle.guidance.proofs.waypoint.waypoint.Statement.{statement}
+use Rattle.guidance.proofs.waypoint.waypoint.Tie as tie
+
+returns : tie.Need-returns
+unfolding waypoint
+returns c = rw (c .refusal .ensures, ← c .before .before .bad-cap .ensures, c .before .if1 .taken)
+
+returns-2 : tie.Need-returns-2
+unfolding waypoint
+returns-2 c =
+    let v = c .before in
+    let r = v .before in
+    let l = r .before in
+    let a = l .before in
+    let e = a .before .before .before .before in
+    rw (c .settled .ensures, v .vertical-of .ensures, r .roll-of .ensures, l .lateral-law .ensures, a .vertical-law .ensures, ← e .before .bad-cap .ensures, e .if1 .left)
+
+pub waypoint-spec : {M : Type 1} → statement M
+waypoint-spec = tie.close (tie.spec (λ c κs. tt) (λ c κs. tt) returns (λ c κs. tt) (λ c κs. tt) (λ c κs. tt) (λ c κs. tt) (λ c κs. tt) returns-2)

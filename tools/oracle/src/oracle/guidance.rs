@@ -1,0 +1,110 @@
+//! Document 01's calls over a guidance of the Rust: refusals 1 to 4 and the law names.
+
+use crate::configuration::Numbers;
+use crate::flown::{Flown, Setpoint};
+use crate::record::{Call, Command, Waypoint};
+
+/// The time step is not finite or not above 0.
+pub const BAD_TIME_STEP: u32 = 2;
+/// A waypoint's cap is below 0.
+pub const BAD_CAP: u32 = 3;
+/// A waypoint's pitch, thrust or a number it would store would not be finite.
+pub const NOT_FINITE: u32 = 4;
+
+#[derive(Clone, Copy, Debug, PartialEq)]
+pub enum Lateral {
+    Track,
+    Loiter,
+}
+
+#[derive(Clone, Copy, Debug, PartialEq)]
+pub enum Vertical {
+    Energy,
+    Hold,
+    Fallback,
+}
+
+#[derive(Clone, Copy, Debug)]
+pub enum Answer {
+    Primed,
+    Plane([f32; 3]),
+    Rate([f32; 4]),
+    Waypoint(Lateral, Vertical, [f32; 3]),
+}
+
+pub fn lateral(w: &Waypoint) -> Lateral {
+    match w.leg {
+        Some([north, east]) if north.is_finite() && east.is_finite() => Lateral::Track,
+        _ => Lateral::Loiter,
+    }
+}
+
+pub fn vertical(w: &Waypoint) -> Vertical {
+    match w.airspeed {
+        Some(airspeed) if w.cruise_speed > 0.0 && airspeed >= 0.0 => {
+            let read = [w.altitude, w.cruise_speed, airspeed, w.position[2], w.velocity[2]];
+            let finite = read.iter().all(|number| number.is_finite());
+            if finite { Vertical::Energy } else { Vertical::Hold }
+        }
+        _ => Vertical::Fallback,
+    }
+}
+
+/// The refusal that is given before the guidance runs.
+pub fn refused_before(call: &Call) -> Option<u32> {
+    let Call::Guide { time_step, command, .. } = call else {
+        return None;
+    };
+    if !(time_step.is_finite() && *time_step > 0.0) {
+        return Some(BAD_TIME_STEP);
+    }
+    match command {
+        Command::Waypoint(w) if w.cap.is_some_and(|cap| cap < 0.0) => Some(BAD_CAP),
+        _ => None,
+    }
+}
+
+/// One call: the answer, or its refusal; a refused call leaves the guidance as it was.
+pub fn call<F: Flown>(guidance: &mut F, call: &Call) -> Result<Answer, u32> {
+    if let Some(number) = refused_before(call) {
+        return Err(number);
+    }
+    let mut next = guidance.copy();
+    let answer = match call {
+        Call::Prime => {
+            next.prime();
+            Answer::Primed
+        }
+        Call::Guide { regime, time_step, command } => {
+            let setpoint = next.guide_capped(*time_step, *regime, command);
+            named(command, setpoint)
+        }
+    };
+    if !sound(&answer, &next) {
+        return Err(NOT_FINITE);
+    }
+    *guidance = next;
+    Ok(answer)
+}
+
+fn named(command: &Command, setpoint: Setpoint) -> Answer {
+    match (command, setpoint) {
+        (Command::Waypoint(w), Setpoint::Plane(numbers)) => Answer::Waypoint(lateral(w), vertical(w), numbers),
+        (_, Setpoint::Plane(numbers)) => Answer::Plane(numbers),
+        (_, Setpoint::Rate(numbers)) => Answer::Rate(numbers),
+    }
+}
+
+/// Number 4's condition: it looks at a waypoint's pitch, thrust and what would be stored.
+pub fn sound<F: Flown>(answer: &Answer, next: &F) -> bool {
+    let Answer::Waypoint(_, _, [_, pitch, thrust]) = answer else {
+        return true;
+    };
+    let stored = next.state().numbers();
+    pitch.is_finite() && thrust.is_finite() && stored.iter().all(|number| number.is_finite())
+}
+
+/// A set-configuration call: the number of the first failing field if it is refused.
+pub fn set_configuration<F: Flown>(guidance: &mut F, numbers: &Numbers) -> Result<(), u32> {
+    guidance.set_config(numbers)
+}

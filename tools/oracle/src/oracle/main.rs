@@ -1,0 +1,187 @@
+//! The oracle: the published guidance with document 01's stand-in arithmetic, and around it
+//! what document 01 adds. See tools/oracle/README.md for the commands.
+
+mod codec;
+mod configuration;
+mod desk;
+mod flown;
+mod functions;
+mod generate;
+mod guidance;
+mod limits;
+mod numbers;
+mod original;
+mod places;
+mod record;
+mod tally;
+mod trigonometry;
+
+use std::io::{Read, Write};
+
+use desk::{Form, Print};
+use functions::Words;
+use numbers::Random;
+use tally::Tally;
+
+fn input() -> Vec<u8> {
+    let mut bytes = Vec::new();
+    std::io::stdin().read_to_end(&mut bytes).expect("standard input can be read");
+    bytes
+}
+
+fn output(bytes: &[u8]) {
+    std::io::stdout().write_all(bytes).expect("standard output can be written");
+}
+
+fn print_for(options: &[String]) -> Print {
+    match options.first().map(String::as_str) {
+        None => Print::Answers,
+        Some("--state") => Print::Both,
+        Some("--state-only") => Print::State,
+        Some(other) => usage(&format!("unknown option {other}")),
+    }
+}
+
+fn number(arguments: &[String], index: usize) -> u64 {
+    match arguments.get(index).map(|text| text.parse()) {
+        Some(Ok(number)) => number,
+        _ => usage("a number is missing"),
+    }
+}
+
+fn usage(problem: &str) -> ! {
+    eprintln!("oracle: {problem}; tools/oracle/README.md lists the commands");
+    std::process::exit(2);
+}
+
+/// Lines `name word..` become `name word.. -> word..`.
+fn evaluate(text: &str) -> String {
+    let functions = functions::all();
+    let mut out = String::new();
+    for line in text.lines().filter(|line| !line.trim().is_empty()) {
+        let parts: Vec<&str> = line.split_whitespace().collect();
+        let Some(function) = functions.iter().find(|function| function.name == parts[0]) else {
+            usage(&format!("no function {}", parts[0]));
+        };
+        let word = |text: &&str| u32::from_str_radix(text, 16).unwrap_or_else(|_| usage("not a word"));
+        let words: Vec<u32> = parts[1..].iter().map(word).collect();
+        if words.len() != function.columns.len() {
+            usage(&format!("{} takes {} words", function.name, function.columns.len()));
+        }
+        let answer = (function.run)(&mut Words::new(&words));
+        let answer: Vec<String> = answer.iter().map(|word| format!("{word:08x}")).collect();
+        out += &format!("{} -> {}\n", parts.join(" "), answer.join(" "));
+    }
+    out
+}
+
+/// Rows of a function: its input words, then its answer's words, each low byte first. So many
+/// are drawn by the seed, after the corner rows of a function of one or two numbers.
+fn rows(name: &str, seed: u64, count: u64) -> Vec<u8> {
+    let functions = functions::all();
+    let Some(function) = functions.iter().find(|function| function.name == name) else {
+        usage(&format!("no function {name}"));
+    };
+    let mut random = Random::new(seed);
+    let drawn = (0..count).map(|_| numbers::row(&mut random, &function.columns));
+    let mut bytes = Vec::new();
+    for mut row in numbers::corner_rows(&function.columns).into_iter().chain(drawn) {
+        function.settle(&mut row);
+        row.extend((function.run)(&mut Words::new(&row)));
+        bytes.extend(row.iter().flat_map(|word| word.to_le_bytes()));
+    }
+    bytes
+}
+
+/// A line for each function: its name, its number of input words and of answer words.
+fn list_functions() -> String {
+    let line = |function: functions::Function| {
+        let inputs = vec![0; function.columns.len()];
+        let answer = (function.run)(&mut Words::new(&inputs));
+        format!("{} {} {}\n", function.name, inputs.len(), answer.len())
+    };
+    functions::all().into_iter().map(line).collect()
+}
+
+/// A generated input as a recording or a list.
+fn generate(kind: &str, seed: u64, calls: u64, form: Form) -> Vec<u8> {
+    if kind == "records" {
+        return generate::records(seed, calls as usize);
+    }
+    match generate::input(kind, seed, calls as usize) {
+        Some(input) => input.bytes(form),
+        None => usage(&format!("no generator {kind}")),
+    }
+}
+
+/// Counts over so many generated inputs of a kind, or of all, each with so many calls.
+fn count(kind: &str, seed: u64, inputs: u64, calls: u64) -> String {
+    let mut tally = Tally::default();
+    let kinds = if kind == "all" { generate::KINDS.to_vec() } else { vec![kind] };
+    for kind in kinds {
+        for seed in seed..seed + inputs {
+            tally.run(&generate(kind, seed, calls, Form::List), Form::List);
+        }
+    }
+    report(&tally)
+}
+
+/// Counts over files: `.list` in the name says a list, `.hex` hexadecimal text.
+fn count_files(names: &[String]) -> String {
+    let mut tally = Tally::default();
+    for name in names {
+        let form = if name.contains(".list") { Form::List } else { Form::Recording };
+        tally.run(&file_bytes(name), form);
+    }
+    report(&tally)
+}
+
+fn report(tally: &Tally) -> String {
+    places::check();
+    let missing = places::missing().join("\n");
+    format!("{}{}\nnever taken\n{missing}\n", tally.print(), places::print())
+}
+
+fn file_bytes(name: &str) -> Vec<u8> {
+    let bytes = std::fs::read(name).unwrap_or_else(|_| usage(&format!("{name} cannot be read")));
+    if !name.ends_with(".hex") {
+        return bytes;
+    }
+    let text = String::from_utf8_lossy(&bytes);
+    let digits = text.lines().map(|line| line.split('#').next().unwrap_or("")).collect::<String>();
+    let digits: Vec<u8> = digits.bytes().filter(|byte| !byte.is_ascii_whitespace()).collect();
+    let byte = |pair: &[u8]| u8::from_str_radix(&String::from_utf8_lossy(pair), 16);
+    digits.chunks(2).map(|pair| byte(pair).unwrap_or_else(|_| usage("not hexadecimal"))).collect()
+}
+
+fn main() {
+    let arguments: Vec<String> = std::env::args().skip(1).collect();
+    let rest = arguments.get(1..).unwrap_or(&[]);
+    match arguments.first().map(String::as_str) {
+        Some("desk") => output(desk::lines(&input(), Form::Recording, print_for(rest)).as_bytes()),
+        Some("list") => output(desk::lines(&input(), Form::List, print_for(rest)).as_bytes()),
+        Some("rewrite") => {
+            let (bytes, end) = desk::rewrite(&input());
+            output(&bytes);
+            if let Err(number) = end {
+                eprintln!("stopped {number}");
+                std::process::exit(1);
+            }
+        }
+        Some("records") => output(codec::lines(&input()).as_bytes()),
+        Some("evaluate") => output(evaluate(&String::from_utf8_lossy(&input())).as_bytes()),
+        Some("functions") => output(list_functions().as_bytes()),
+        Some("rows") if rest.len() == 3 => output(&rows(&rest[0], number(rest, 1), number(rest, 2))),
+        Some("generate") if rest.len() >= 3 => {
+            let form = if rest.get(3).is_some_and(|form| form == "list") { Form::List } else { Form::Recording };
+            output(&generate(&rest[0], number(rest, 1), number(rest, 2), form));
+        }
+        Some("count") if rest.len() == 4 => {
+            output(count(&rest[0], number(rest, 1), number(rest, 2), number(rest, 3)).as_bytes());
+        }
+        Some("original") => output(original::beside(&input()).as_bytes()),
+        Some("trigonometry") => output(trigonometry::report().as_bytes()),
+        Some("count-files") => output(count_files(rest).as_bytes()),
+        _ => usage("no such command"),
+    }
+}
