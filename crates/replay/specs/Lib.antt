@@ -1,0 +1,3 @@
+-- Document 01, "Records and desk program": what the contracts of `replay` cite.
+pub mod Recording
+pub mod Text
