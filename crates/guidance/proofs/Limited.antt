@@ -1,10 +1,9 @@
 -- Demand 3: every accepted waypoint call obeys its limits, with the configuration in force and underspeed worked out from the
 -- calls. Assumes nothing.
-use Prim.Native.Nat.{ℕ, zero, suc, _<_}
+use Prim.Native.Nat.{ℕ}
 use mathlib.Core.Path.{_≡_, refl, sym, ap, _∙_, subst}
-use mathlib.Core.Bool.{Bool, true, false, cond, not, _&&_, true≢false, false≢true}
-use mathlib.Core.List.{List, [], _∷_, _++_}
-use native.Mathlib.Omega.{arith}
+use mathlib.Core.Bool.{Bool, true, false, cond, not, _&&_}
+use mathlib.Core.List.{List, [], _∷_}
 use lib.Dec.{eqb}
 use lib.Ieee as Ieee
 use lib.Ieee.{Float, isNan, le, lt, neg}
@@ -12,9 +11,10 @@ use borrow.Author.Tests.{eqb-true}
 use Rattle.arithmetic.specs.Constants.{_+ᶠ_, _-ᶠ_, _·ᶠ_, _/ᶠ_, n0, fracPi2}
 use Rattle.arithmetic.specs.Order.{greatest, clamp, finite, choose}
 use Rattle.arithmetic.specs.Trigonometry.{arctangent}
-use Rattle.arithmetic.proofs.Bounds.{le-self, left-number, right-number, finite-number, clamped-low, clamped-high, unclamped, zero-between, greatest-right, greatest-le, least-zero, least-finite, zero-number, eq-self}
+use Rattle.arithmetic.proofs.Bounds.{never, and-left, and-right, le-self, left-number, right-number, finite-number, clamped-low, clamped-high, unclamped, zero-between, greatest-right, greatest-le, least-zero, least-finite, zero-number, eq-self}
 use Rattle.arithmetic.proofs.Sums.{le-trans, sub-mono, neg-finite, between-finite, add-number}
-use Rattle.laws.specs.Config.{within, firstFailing, configTests, validate}
+use Rattle.laws.specs.Config.{within, validate}
+use Rattle.laws.proofs.Validated.{valid-field}
 use Rattle.laws.specs.Math.{limitOrZero, clampSymmetric}
 use Rattle.laws.specs.Types.{gravity, validAirspeed}
 use Rattle.laws.specs.Navigation.{bankForAccel, lateralAccel, finiteLeg, piFinite, piStep}
@@ -44,28 +44,7 @@ use Rattle.guidance.specs.declared.plane.Answer.the-variants.{Refused}
 use Rattle.guidance.specs.declared.plane.Guided.{Guided}
 use Rattle.guidance.specs.declared.plane.Vertical.{Vertical}
 
-never : {A : Type 0} → false ≡ true → A
-never e = absurd (false≢true e)
-
-and-left : (a b : Bool) → a && b ≡ true → a ≡ true
-and-left true b e = refl
-and-left false b e = never e
-
-and-right : (a b : Bool) → a && b ≡ true → b ≡ true
-and-right true b e = e
-and-right false b e = never e
-
 -- ---- what a valid configuration has
-abbrev All : List Bool → Type 0
-All [] = Unit {0}
-All (b ∷ bs) = (b ≡ true) × All bs
-
-none-fails : (n : ℕ) (bs : List Bool) → 0 < n → firstFailing n bs 0 ≡ 0 → All bs
-unfolding firstFailing
-none-fails n [] p e = tt
-none-fails n (true ∷ bs) p e = (refl, none-fails (suc n) bs (omega arith) e)
-none-fails n (false ∷ bs) p e = absurd (omega arith)
-
 record Valid (c : PlaneGuidanceConfig) : Type 0 where
   bank : le n0 (c .«max_bank_rad») ≡ true
   pitch-up : le n0 (c .«max_pitch_up_rad») ≡ true
@@ -86,20 +65,17 @@ zero-finite = refl
 within-finite : (low x high : Float) → finite low ≡ true → finite high ≡ true → within low x high ≡ true → finite x ≡ true
 within-finite low x high a b e = between-finite low x high a b (and-left (le low x) (le x high) e) (and-right (le low x) (le x high) e)
 
+-- the fields whose tests the limits rest on, by document 01's numbers
 valid : (c : PlaneGuidanceConfig) → validate c ≡ 0 → Valid c
-unfolding validate
-valid c e =
-    let t = none-fails 1 (configTests c) (omega arith) e in
-    let last = t .1 .1 .1 .1 .1 .1 .1 .1 .1 .1 .1 .1 .1 .1 .1 .1 .1 .1 .1 .1 .1 .1 .1 .1 .1 .1 .1 .1 .1 .1 in
-    record {
-      bank = and-left (le n0 (c .«max_bank_rad»)) _ (t .0);
-      pitch-up = and-left (le n0 (c .«max_pitch_up_rad»)) _ (t .1 .0);
-      pitch-down = and-left (le n0 (c .«max_pitch_down_rad»)) _ (t .1 .1 .0);
-      least-thrust = right-number n0 (c .«min_thrust») (and-left (le n0 (c .«min_thrust»)) _ (last .0));
-      up-finite = within-finite n0 _ fracPi2 zero-finite half-finite (t .1 .0);
-      down-finite = within-finite n0 _ fracPi2 zero-finite half-finite (t .1 .1 .0);
-      trim-finite = within-finite (neg fracPi2) _ fracPi2 (neg-finite fracPi2 half-finite) half-finite (t .1 .1 .1 .1 .1 .1 .0);
-    }
+valid c e = record {
+  bank = and-left (le n0 (c .«max_bank_rad»)) _ (valid-field c e 1);
+  pitch-up = and-left (le n0 (c .«max_pitch_up_rad»)) _ (valid-field c e 2);
+  pitch-down = and-left (le n0 (c .«max_pitch_down_rad»)) _ (valid-field c e 3);
+  least-thrust = right-number n0 (c .«min_thrust») (and-left (le n0 (c .«min_thrust»)) _ (valid-field c e 31));
+  up-finite = within-finite n0 _ fracPi2 zero-finite half-finite (valid-field c e 2);
+  down-finite = within-finite n0 _ fracPi2 zero-finite half-finite (valid-field c e 3);
+  trim-finite = within-finite (neg fracPi2) _ fracPi2 (neg-finite fracPi2 half-finite) half-finite (valid-field c e 7);
+}
 
 -- ---- roll
 bank-number : (a : Float) → isNan (bankForAccel a) ≡ false

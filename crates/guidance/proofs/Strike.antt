@@ -1,11 +1,11 @@
 -- Demand 3: struck calls and fresh starts. Assumes nothing.
 use Prim.Native.Nat.{ℕ}
 use mathlib.Core.Path.{_≡_, refl, sym, ap, _∙_, subst}
-use mathlib.Core.Bool.{Bool, true, false, cond, not, _&&_, _||_, true≢false, false≢true}
+use mathlib.Core.Bool.{Bool, true, false, cond, not, _&&_, _||_}
 use mathlib.Core.List.{List, [], _∷_, _++_}
 use lib.Dec.{eqb}
 use lib.Ieee.{Float}
-use Rattle.arithmetic.specs.Constants.{n0}
+use Rattle.arithmetic.proofs.Bounds.{never, never′, and-left, and-right}
 use Rattle.laws.specs.Config.{validate}
 use Rattle.laws.specs.Tecs.{hold}
 use Rattle.laws.specs.declared.config.PlaneGuidanceConfig.{PlaneGuidanceConfig}
@@ -24,12 +24,6 @@ use Rattle.guidance.specs.declared.plane.VerticalLaw.the-variants.{Energ
 use Rattle.guidance.specs.declared.plane.Laws.{Laws}
 use Rattle.guidance.specs.declared.plane.Guided.{Guided}
 use Rattle.guidance.proofs.Alike.{Alike, alike-refl, alike-sym, alike-trans, AlikeOutcome, perform-alike, replies-alike}
-
-never : {A : Type 0} → false ≡ true → A
-never e = absurd (false≢true e)
-
-never′ : {A : Type 0} → true ≡ false → A
-never′ e = absurd (true≢false e)
 
 -- ---- what one call leaves behind, by whether it was refused
 
@@ -153,14 +147,6 @@ left g (setConfig c) = left-configured g c _ refl (eqb (validate c) 0)
 or-cases : (a b : Bool) → a || b ≡ true → {A : Type 0} → (a ≡ true → A) → (a ≡ false → b ≡ true → A) → A
 or-cases true b e f h = f refl
 or-cases false b e f h = h refl e
-
-and-left : (a b : Bool) → a && b ≡ true → a ≡ true
-and-left true b e = refl
-and-left false b e = never e
-
-and-right : (a b : Bool) → a && b ≡ true → b ≡ true
-and-right true b e = e
-and-right false b e = never e
 
 un-not : (b : Bool) → not b ≡ true → b ≡ false
 un-not true e = never e

@@ -102,10 +102,11 @@ fn cleared(g: PlaneGuidance, requested: u32) -> PlaneGuidance
     ensures { λ r. ⌜ r ≡ spec.cleared g requested ⌝ }
 {
     let config = g.config;
+    let altitude = PiLoop { integral: 0.0 };
     PlaneGuidance {
         config,
         requested,
-        altitude: PiLoop { integral: 0.0 },
+        altitude,
         tecs: reset(),
     }
 }

@@ -275,29 +275,36 @@ pub fn refusal(g: PlaneGuidance, number: u32) -> Guided
     }
 }
 
-// Number 4 where a number would not be finite; else the answer, and the guidance with what the law stores.
+// The answer, and the guidance with what the vertical law stores.
+fn flown(g: PlaneGuidance, regime: FlightRegime, laws: Laws, roll_rad: f32, v: Vertical) -> Guided
+    ensures { λ r. ⌜ r ≡ spec.flown g regime laws «roll_rad» v ⌝ }
+{
+    let config = g.config;
+    let altitude = v.altitude;
+    let tecs = v.tecs;
+    let requested = regime_number(regime);
+    let setpoint = Setpoint::Plane {
+        roll_rad,
+        pitch_rad: v.pitch_rad,
+        thrust: v.thrust,
+    };
+    Guided {
+        guidance: PlaneGuidance {
+            config,
+            requested,
+            altitude,
+            tecs,
+        },
+        answer: Answer::Waypoint(WaypointAnswer { setpoint, laws }),
+    }
+}
+
+// Number 4 where a number would not be finite.
 fn settled(g: PlaneGuidance, regime: FlightRegime, laws: Laws, roll_rad: f32, v: Vertical) -> Guided
     ensures { λ r. ⌜ r ≡ spec.settled g regime laws «roll_rad» v ⌝ }
 {
     if all_finite(v) {
-        let config = g.config;
-        let altitude = v.altitude;
-        let tecs = v.tecs;
-        let requested = regime_number(regime);
-        let setpoint = Setpoint::Plane {
-            roll_rad,
-            pitch_rad: v.pitch_rad,
-            thrust: v.thrust,
-        };
-        Guided {
-            guidance: PlaneGuidance {
-                config,
-                requested,
-                altitude,
-                tecs,
-            },
-            answer: Answer::Waypoint(WaypointAnswer { setpoint, laws }),
-        }
+        flown(g, regime, laws, roll_rad, v)
     } else {
         refusal(g, 4)
     }

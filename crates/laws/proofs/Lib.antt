@@ -1,2 +1,4 @@
 -- Laws about the definitions, for this crate's proofs and for crates above.
+pub mod Starred
 pub mod Steering
+pub mod Validated

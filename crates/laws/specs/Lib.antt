@@ -5,3 +5,4 @@ pub mod Config
 pub mod Navigation
 pub mod Steering
 pub mod Tecs
+pub mod Starred

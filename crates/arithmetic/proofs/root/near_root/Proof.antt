@@ -21,9 +21,9 @@ Inv-loop2 m b v₀ v = (v ≤ 33554432) × (v * v < m + v)
 abbrev μ-loop2 : tie.MeasureT-loop2
 μ-loop2 m b v₀ v = 33554432 - v
 
--- v is above 0 while its square is m + v at least, for an m above 0
-positive : (m v : ℕ) → 0 < m → m + v ≤ v * v → 1 ≤ v
-positive m v M h = lt-of-not-le (λ (g : v ≤ 0). not-le-of-lt M (omega (arith, mul-le-mul g g)))
+-- v is above 0 where its square is, so while its square is m + v at least, for an m above 0
+positive : (v : ℕ) → 1 ≤ v * v → 1 ≤ v
+positive v h = lt-of-not-le (λ (g : v ≤ 0). not-le-of-lt h (omega (arith, mul-le-mul g g)))
 
 -- v is below 2 ^ 24 while its square is below 2 ^ 48
 small : (m v : ℕ) → m < 281474976710656 → v * v + v < m → v < 16777216
@@ -45,10 +45,10 @@ add-loop : tie.Need-add-loop Inv-loop μ-loop Inv-loop2 μ-loop2
 add-loop c = search needs
 
 sub-v : tie.Need-sub-v Inv-loop μ-loop Inv-loop2 μ-loop2
-sub-v c = positive _ (c .before .loop .v) (c .before .before .before .pre .0) (c .loop-test .taken)
+sub-v c = positive (c .before .loop .v) (omega arith)
 
 loop-less : tie.Need-loop-less Inv-loop μ-loop Inv-loop2 μ-loop2
-loop-less c = omega (arith, positive _ (c .before .loop .v) (c .before .before .before .pre .0) (c .loop-test .taken))
+loop-less c = omega (arith, positive (c .before .loop .v) (omega arith))
 
 loop-again : tie.Need-loop-again Inv-loop μ-loop Inv-loop2 μ-loop2
 loop-again c = search needs

@@ -2,9 +2,7 @@ use Rattle.guidance.proofs.waypoint.settled.Statement.{statement}
 use Rattle.guidance.proofs.waypoint.settled.Tie as tie
 
 returns : tie.Need-returns
-returns c =
-    let e = c .before .before .before .before in
-    rw (c .regime-number .ensures, ← e .before .all-finite .ensures, e .if1 .taken)
+returns c = rw (c .flown .ensures, ← c .before .before .all-finite .ensures, c .before .if1 .taken)
 
 returns-2 : tie.Need-returns-2
 returns-2 c = rw (c .refusal .ensures, ← c .before .before .all-finite .ensures, c .before .if1 .left)

@@ -1,0 +1,46 @@
+"""The programs that answer a recording: the desk program, and the oracle where it was built."""
+
+import os
+import pathlib
+import subprocess
+
+ROOT = pathlib.Path(__file__).resolve().parent.parent.parent
+DESK = ROOT / "target/bin/desk"
+# The environment may name another build.
+ORACLE = pathlib.Path(os.environ.get("ORACLE", ROOT / "target/oracle/oracle"))
+
+
+class Missing(Exception):
+    """A program that is not built, or not from the present sources."""
+
+
+def oracle_command(mode):
+    if not ORACLE.is_file():
+        raise Missing("target/oracle/oracle is not built")
+    return [str(ORACLE), mode]
+
+
+def own_desk_command():
+    """The desk program. An old build would answer for sources that are no longer there."""
+    if not DESK.is_file():
+        raise Missing("target/bin/desk is not built")
+    built = DESK.stat().st_mtime
+    sources = [ROOT / "crates.txt", *(file for file in (ROOT / "crates").rglob("*") if file.is_file())]
+    if any(file.stat().st_mtime > built for file in sources):
+        raise Missing("target/bin/desk is older than its sources")
+    return [str(DESK)]
+
+
+def desk_command():
+    """The desk program, or the oracle in its place."""
+    try:
+        return own_desk_command()
+    except Missing as missing:
+        try:
+            return oracle_command("desk")
+        except Missing as also:
+            raise Missing(f"{missing}, and {also} (./desk builds the desk program)") from None
+
+
+def run(command, data):
+    return subprocess.run(command, input=data, capture_output=True, check=True).stdout
