@@ -19,12 +19,12 @@ puts-none s = record { bytes = refl; size = refl }
 put-one : (s : List ℕ) (at x : ℕ) → at < length s → set s at x ≡ putAt s at (x ∷ [])
 put-one s at x h = rw (set-split s at x h, add-one at)
 
-put-long : (s : List ℕ) (at : ℕ) (bs : List ℕ) → at + length bs ≤ length s → length (putAt s at bs) ≡ length s
+pub put-long : (s : List ℕ) (at : ℕ) (bs : List ℕ) → at + length bs ≤ length s → length (putAt s at bs) ≡ length s
 put-long s at bs h =
     simp (length-append, length-drop) (omega (arith, length-take-le at s (omega arith)))
 
 -- bytes put at a place, and then more after them
-put-then : (s : List ℕ) (at : ℕ) (a b : List ℕ) → at + length a ≤ length s → putAt (putAt s at a) (at + length a) b ≡ putAt s at (a ++ b)
+pub put-then : (s : List ℕ) (at : ℕ) (a b : List ℕ) → at + length a ≤ length s → putAt (putAt s at a) (at + length a) b ≡ putAt s at (a ++ b)
 put-then s at a b h = rw (drop-drop (length a) at s) at (put-more s at (length a) a b refl h)
 
 -- the bytes that stand at the front of a part so far

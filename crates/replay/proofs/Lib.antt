@@ -1,0 +1,3 @@
+-- Laws of the replay.
+pub mod PrintLaw
+pub mod CallsLaw
