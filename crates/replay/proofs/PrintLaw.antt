@@ -7,14 +7,18 @@ use native.Mathlib.Omega.{arith}
 use native.Mathlib.Nat.{add-zero, zero-add}
 use borrow.Author.Tests.{le-leb, lt-leb}
 use borrow.Rule.Slice.PartMut.{putMid}
-use lib.ListN.{length, take, drop, length-append, take-append-drop}
+use lib.ListN.{length, take, drop, length-append, length-drop, take-append-drop}
 use Rattle.fields.specs.Bytes.{putAt}
 use Rattle.fields.specs.Writing.{answerOf, bufferOf}
 use Rattle.fields.specs.declared.Written.the-variants.{Next, Refused}
-use Rattle.fields.proofs.FieldLaw.{put-lent}
+use Rattle.fields.proofs.FieldLaw.{rest-is, put-lent}
 use Rattle.lines.specs.Line.{Puts}
 use Rattle.lines.proofs.PutLaw.{put-long, put-then}
 use Rattle.replay.specs.Pass.{Prints}
+
+-- room in the rest of a buffer
+pub print-room : (out : List ℕ) (to n : ℕ) → to + n ≤ length out → n ≤ length (take (length out - to) (drop to out))
+print-room out to n h = rw (rest-is out to) (simp length-drop (omega arith))
 
 -- `print`: into the buffer from a place on, or beside it
 pub print-writes : (write : Bool) (to : ℕ) (bs out p : List ℕ) (r : ℕ) → write ≡ true → to + length bs ≤ length out

@@ -3,7 +3,7 @@ pub mod turn;
 
 use crate::turn::refused_line;
 use crate::turn::stopped_line;
-use crate::turn::turn;
+use crate::turn::perform;
 use fields::Written;
 use guidance::plane::Created;
 use guidance::plane::PlaneGuidance;
@@ -36,7 +36,7 @@ fn print(out: &mut [u8], to: usize, write: bool, l: Line) -> usize
 
 // Prints or measures the lines of the calls from a place on.
 fn calls(s: &[u8], from: usize, fresh: PlaneGuidance, out: &mut [u8], write: bool) -> usize
-    requires { ⌜ write ≡ true → length (callsText (now s) from fresh) ≤ length (now out) ⌝ }
+    requires { ⌜ (write ≡ true → length (callsText (now s) from fresh) ≤ length (now out)) ⌝ }
     ensures { λ r. ⌜ Prints write 0 (callsText (now (s .entry)) from fresh) (now (out .entry)) (now (out .exit)) r ⌝ }
 {
     let mut g = fresh;
@@ -53,9 +53,9 @@ fn calls(s: &[u8], from: usize, fresh: PlaneGuidance, out: &mut [u8], write: boo
                 return print(out, to, write, stopped_line(n, r as u32));
             }
             ReadCall::Read { call, next } => {
-                let t = turn(n, g, call);
-                let line = t.line;
-                let after = t.guidance;
+                let p = perform(n, g, call);
+                let line = p.line;
+                let after = p.guidance;
                 to = print(out, to, write, line);
                 g = after;
                 at = next;
@@ -71,7 +71,7 @@ fn calls(s: &[u8], from: usize, fresh: PlaneGuidance, out: &mut [u8], write: boo
 
 // Prints or measures the text of a recording.
 fn pass(s: &[u8], out: &mut [u8], write: bool) -> usize
-    requires { ⌜ write ≡ true → length (recordingText (now s)) ≤ length (now out) ⌝ }
+    requires { ⌜ (write ≡ true → length (recordingText (now s)) ≤ length (now out)) ⌝ }
     ensures { λ r. ⌜ Prints write 0 (recordingText (now (s .entry))) (now (out .entry)) (now (out .exit)) r ⌝ }
 {
     let read = read_config(s, 0);

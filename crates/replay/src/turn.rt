@@ -15,7 +15,7 @@ use lines::Word;
 use records::call::Call;
 ghost use mathlib.Core.Path.{_≡_};
 ghost use Rattle.replay.specs.Text as spec;
-ghost use Rattle.replay.specs.Turn.{askedCall, turnOf};
+ghost use Rattle.replay.specs.Performed.{requestCall, performedOf};
 
 // What `guide_capped` is given.
 pub struct Guide {
@@ -26,21 +26,21 @@ pub struct Guide {
     pub cap: OptionF32,
 }
 
-pub enum Asked {
+pub enum Request {
     Prime,
     Guide(Guide),
 }
 
-pub struct Turn {
+pub struct Performed {
     pub line: Line,
     pub guidance: PlaneGuidance,
 }
 
 // A command other than a waypoint, which reads no sensors and no cap.
-fn command(dt: f32, regime: FlightRegime, input: ControlInput) -> Asked
-    ensures { λ r. ⌜ r ≡ Asked.Guide (record { dt = dt; regime = regime; input = input; state = spec.noSensors; cap = OptionF32.None }) ⌝ }
+fn command(dt: f32, regime: FlightRegime, input: ControlInput) -> Request
+    ensures { λ r. ⌜ r ≡ Request.Guide (record { dt = dt; regime = regime; input = input; state = spec.noSensors; cap = OptionF32.None }) ⌝ }
 {
-    Asked::Guide(Guide {
+    Request::Guide(Guide {
         dt,
         regime,
         input,
@@ -63,11 +63,11 @@ fn command(dt: f32, regime: FlightRegime, input: ControlInput) -> Asked
 }
 
 // So that guide_capped is called from one place.
-fn asked(call: Call) -> Asked
-    ensures { λ r. ⌜ askedCall r ≡ spec.callOf call ⌝ }
+fn request_of(call: Call) -> Request
+    ensures { λ r. ⌜ requestCall r ≡ spec.callOf call ⌝ }
 {
     match call {
-        Call::Prime => Asked::Prime,
+        Call::Prime => Request::Prime,
         Call::Attitude {
             regime,
             dt,
@@ -84,7 +84,7 @@ fn asked(call: Call) -> Asked
             command: k,
             state,
             cap,
-        } => Asked::Guide(Guide {
+        } => Request::Guide(Guide {
             dt,
             regime,
             input: ControlInput::Waypoint(k),
@@ -238,16 +238,16 @@ fn answer_line(number: u32, answer: Answer) -> Line
 }
 
 // A call's line, and the guidance after it.
-pub fn turn(number: u32, g: PlaneGuidance, call: Call) -> Turn
-    ensures { λ r. ⌜ r ≡ turnOf number g call ⌝ }
+pub fn perform(number: u32, g: PlaneGuidance, call: Call) -> Performed
+    ensures { λ r. ⌜ r ≡ performedOf number g call ⌝ }
 {
-    let a = asked(call);
+    let a = request_of(call);
     match a {
-        Asked::Prime => Turn {
+        Request::Prime => Performed {
             line: prime_line(number),
             guidance: g.prime(),
         },
-        Asked::Guide(k) => {
+        Request::Guide(k) => {
             let regime = k.regime;
             let input = k.input;
             let state = k.state;
@@ -255,7 +255,7 @@ pub fn turn(number: u32, g: PlaneGuidance, call: Call) -> Turn
             let guided = g.guide_capped(k.dt, regime, input, state, cap);
             let answer = guided.answer;
             let guidance = guided.guidance;
-            Turn {
+            Performed {
                 line: answer_line(number, answer),
                 guidance,
             }
