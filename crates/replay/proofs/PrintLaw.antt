@@ -12,7 +12,8 @@ use Rattle.fields.specs.Bytes.{putAt}
 use Rattle.fields.specs.Writing.{answerOf, bufferOf}
 use Rattle.fields.specs.declared.Written.the-variants.{Next, Refused}
 use Rattle.fields.proofs.FieldLaw.{rest-is, put-lent}
-use Rattle.lines.specs.Line.{Puts}
+use Rattle.lines.specs.declared.Line.{Line}
+use Rattle.lines.specs.Line.{text, Puts}
 use Rattle.lines.proofs.PutLaw.{put-long, put-then}
 use Rattle.replay.specs.Pass.{Prints}
 
@@ -80,6 +81,23 @@ module _ {w : Bool} {whole out₀ out : List ℕ} {to : ℕ} where
 
   pub last-room : (bs : List ℕ) → Printed w whole out₀ out to bs → w ≡ true → to + length bs ≤ length out
   last-room bs f e = omega (arith, f .size, f .room e, f .long)
+
+-- ---- a text of one line, at the front of the buffer
+
+module _ (w : Bool) (out whole : List ℕ) (l m : Line) (e : l ≡ m) (t : whole ≡ text m) where
+  pub alone-asks : m .count ≤ 4 → (w ≡ true → length whole ≤ length out) → (l .count ≤ 4) × (0 ≤ 327680) × (w ≡ true → 0 + length (text l) ≤ length out)
+  alone-asks h room = (rw e h, omega arith, λ (q : w ≡ true). rw e (omega (arith, room q, ap length t)))
+
+  pub alone-prints : (after : List ℕ) (r : ℕ) → Prints w 0 (text l) out after r → Prints w 0 whole out after r
+  alone-prints after r p = rw t (rw e at p)
+
+-- the same text by another name
+pub same-asks : (w : Bool) (n : ℕ) (whole bs : List ℕ) → whole ≡ bs → (w ≡ true → length whole ≤ n) → w ≡ true → length bs ≤ n
+same-asks w n whole bs e room q = rw e at (room q)
+
+-- what a pass that only measures is not asked
+pub not-asked : (m n : ℕ) → false ≡ true → m ≤ n
+not-asked m n q = let z : _≡_ {A = ℕ} 0 1 = cc in absurd (omega arith)
 
 -- ---- the answer
 
