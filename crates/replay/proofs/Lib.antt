@@ -1,0 +1,4 @@
+-- Laws of the replay.
+pub mod PrintLaw
+pub mod PerformLaw
+pub mod CallsLaw
