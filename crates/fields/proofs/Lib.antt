@@ -1,0 +1,5 @@
+-- Laws of fields, for the proofs of this crate and of those above.
+pub mod NumberLaw
+pub mod MapLaw
+pub mod FieldLaw
+pub mod WriteLaw

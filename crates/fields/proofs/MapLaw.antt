@@ -1,0 +1,38 @@
+-- A loop that applies a function to each number of a list. Assumes nothing.
+use mathlib.Core.Path.{_≡_, refl, sym, ap, _∙_}
+use mathlib.Core.List.{List, [], _∷_, _++_, append-assoc, append-nil, map}
+use Prim.Native.Nat.{ℕ, suc, _+_, _<_, _≤_}
+use native.Mathlib.Omega.{arith}
+use native.Mathlib.Numerals.{add-one}
+use lib.ListN.{length, set, drop, take, getD, length-set, drop-of-length-le}
+use lib.Seq.{take-all, drop-cons, take-suc-set}
+
+module _ {A B : Type 0} (f : A → B) (d : A) where
+  -- what holds in each turn: the first i numbers of the result are there
+  pub record Mapped (xs : List A) (ys : List B) (i : ℕ) : Type 0 where
+    pub below : i ≤ length xs
+    pub long : length ys ≡ length xs
+    pub is : take i ys ++ map f (drop i xs) ≡ map f xs
+
+  pub starts : (xs : List A) (ys : List B) → length ys ≡ length xs → Mapped xs ys 0
+  starts xs ys h = record { below = omega arith; long = h; is = refl }
+
+  module _ {xs : List A} {ys : List B} {i : ℕ} (m : Mapped xs ys i) where
+    first : i < length xs → map f (drop i xs) ≡ f (getD xs i d) ∷ map f (drop (i + 1) xs)
+    first h = rw (drop-cons xs i d h, add-one i)
+
+    pub turn : i < length xs → (y : B) → y ≡ f (getD xs i d) → Mapped xs (set ys i y) (i + 1)
+    turn h y e =
+        let here : i < length ys = omega (arith, m .long) in
+        let front : take (i + 1) (set ys i y) ≡ take i ys ++ (y ∷ []) = rw (add-one i) (take-suc-set ys i y here) in
+        record {
+          below = omega arith;
+          long = simp length-set (m .long);
+          is = rw (front, e) (append-assoc (take i ys) (f (getD xs i d) ∷ []) (map f (drop (i + 1) xs)) ∙ ap (λ (l : List B). take i ys ++ l) (sym (first h)) ∙ m .is)
+        }
+
+    pub done : length xs ≤ i → ys ≡ map f xs
+    done h =
+        let all : take i ys ≡ ys = take-all i ys (omega (arith, m .long)) in
+        let none : drop i xs ≡ [] = drop-of-length-le xs h in
+        sym (rw (all, none) (append-nil ys)) ∙ m .is

@@ -1,0 +1,3 @@
+-- Laws of the two records.
+pub mod ConfigLaw
+pub mod CallLaw

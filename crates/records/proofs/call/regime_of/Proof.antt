@@ -1,0 +1,16 @@
+-- `call::regime_of` meets its contract, by its test. Assumes nothing.
+use borrow.Author.Tests.{eq-eqb, ne-eqb}
+use Rattle.records.specs.Call.{regimeOf}
+use Rattle.records.proofs.call.regime_of.Statement.{statement}
+use Rattle.records.proofs.call.regime_of.Tie as tie
+
+returns : tie.Need-returns
+unfolding regimeOf
+returns c = rw (eq-eqb _ _ (c .if1 .taken))
+
+returns-2 : tie.Need-returns-2
+unfolding regimeOf
+returns-2 c = rw (ne-eqb _ _ (c .if1 .left))
+
+pub regime-of-spec : {M : Type 1} → statement M
+regime-of-spec = tie.close (tie.spec returns returns-2)

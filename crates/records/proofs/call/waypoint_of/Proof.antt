@@ -1,0 +1,43 @@
+-- `call::waypoint_of` meets its contract. Assumes nothing.
+use borrow.Author.Needs.{needs}
+use Rattle.records.specs.Call.{waypointAt}
+use Rattle.records.proofs.call.waypoint_of.Statement.{statement}
+use Rattle.records.proofs.call.waypoint_of.Tie as tie
+
+array-read-leg-of : tie.Need-array-read-leg-of
+array-read-leg-of c = search needs
+
+array-read-leg-of-2 : tie.Need-array-read-leg-of-2
+array-read-leg-of-2 c = search needs
+
+leg-of-requires : tie.Need-leg-of-requires
+leg-of-requires c κs = search needs
+
+array-read-t8 : tie.Need-array-read-t8
+array-read-t8 c = search needs
+
+array-read-t11 : tie.Need-array-read-t11
+array-read-t11 c = search needs
+
+array-read-t19 : tie.Need-array-read-t19
+array-read-t19 c = search needs
+
+array-read-t22 : tie.Need-array-read-t22
+array-read-t22 c = search needs
+
+returns : tie.Need-returns
+unfolding waypointAt
+returns c = rw (c .leg-of .ensures)
+
+pub waypoint-of-spec : {M : Type 1} → statement M
+waypoint-of-spec =
+    tie.close
+    (tie.spec
+    array-read-leg-of
+    array-read-leg-of-2
+    leg-of-requires
+    array-read-t8
+    array-read-t11
+    array-read-t19
+    array-read-t22
+    returns)

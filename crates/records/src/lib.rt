@@ -1,0 +1,3 @@
+// Configuration and call records, read and written: document 01, "Records and desk program".
+pub mod call;
+pub mod config;
