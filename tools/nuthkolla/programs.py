@@ -11,7 +11,7 @@ ORACLE = pathlib.Path(os.environ.get("ORACLE", ROOT / "target/oracle/oracle"))
 
 
 class Missing(Exception):
-    """No program of these is built."""
+    """A program that is not built, or not from the present sources."""
 
 
 def oracle_command(mode):
@@ -21,16 +21,25 @@ def oracle_command(mode):
 
 
 def own_desk_command():
+    """The desk program. An old build would answer for sources that are no longer there."""
     if not DESK.is_file():
         raise Missing("target/bin/desk is not built")
+    built = DESK.stat().st_mtime
+    sources = [ROOT / "crates.txt", *(file for file in (ROOT / "crates").rglob("*") if file.is_file())]
+    if any(file.stat().st_mtime > built for file in sources):
+        raise Missing("target/bin/desk is older than its sources")
     return [str(DESK)]
 
 
 def desk_command():
     """The desk program, or the oracle in its place."""
-    if not DESK.is_file() and not ORACLE.is_file():
-        raise Missing("neither target/bin/desk nor target/oracle/oracle is built")
-    return own_desk_command() if DESK.is_file() else oracle_command("desk")
+    try:
+        return own_desk_command()
+    except Missing as missing:
+        try:
+            return oracle_command("desk")
+        except Missing as also:
+            raise Missing(f"{missing}, and {also} (./desk builds the desk program)") from None
 
 
 def run(command, data):

@@ -146,6 +146,20 @@ put-more out at n a b l h =
     let size : at + length (a ++ b) ≡ at + n + length b = simp length-append (omega arith) in
     rw (first, tail, size, append-assoc (take at out) a _, append-assoc a b _) refl
 
+-- no byte put
+pub put-none : (out : List ℕ) (at : ℕ) → out ≡ putAt out at []
+put-none out at = sym (rw (add-zero at) (take-append-drop at out))
+
+-- bytes put from a place on, and then more from where they end
+pub put-next : (p : List ℕ) (at n : ℕ) (a b : List ℕ) {q r : List ℕ} → q ≡ putAt p at a → n ≡ at + length a → n ≤ length p → r ≡ putAt q n b → r ≡ putAt p at (a ++ b)
+put-next p at n a b eq en h er =
+    let whole = eq ∙ ap (λ (l : List ℕ). take at p ++ (a ++ l)) (sym (drop-drop (length a) at p)) in
+    er ∙ rw (whole, en) (put-more p at (length a) a b refl (omega arith))
+
+-- a part from a place on, lent and come back with n bytes at its front
+pub put-front : (out p : List ℕ) (at n : ℕ) (bs : List ℕ) → length bs ≡ n → at ≤ length out → p ≡ bs ++ drop n (take (length out - at) (drop at out)) → putMid at (length out - at) out p ≡ putAt out at bs
+put-front out p at n bs l h e = rest-back out p at h ∙ rw (e, rest-is out at, ← l, drop-drop (length bs) at out)
+
 -- a part from a place on, lent and come back with bytes at its front
 pub put-lent : (out p : List ℕ) (at : ℕ) (bs : List ℕ) → at ≤ length out → p ≡ putAt (take (length out - at) (drop at out)) 0 bs → putMid at (length out - at) out p ≡ putAt out at bs
 put-lent out p at bs h e =
@@ -303,8 +317,9 @@ module _ {keep v missing : List ℕ} {m i : ℕ} (f : Mapping keep v missing m i
           rw (q, pow-suc 2 (length keep - i)) (omega (arith, f .small, e, bit-small (isWritten (getD keep (i - 1) 0) (getD v (i - 1) 0) (getD missing (i - 1) 0))))
       }
 
-pub map-done : {keep v missing : List ℕ} {m i : ℕ} → Mapping keep v missing m i → i ≤ 0 → (m ≡ mapOf (numberFields missing) keep v) × (m < 2 ^ length keep)
-map-done {keep} {v} {missing} {m} {i} f h =
+pub map-done : {keep v missing : List ℕ} {m i : ℕ} → Mapping keep v missing m i → length v ≡ length keep → length missing ≡ length keep → length keep ≤ 40 → i ≤ 0
+    → (m ≡ mapOf (numberFields missing) keep v) × (m < 2 ^ length keep) × (m < 2 ^ 40)
+map-done {keep} {v} {missing} {m} {i} f lv ld h k =
     let z : i ≡ 0 = omega arith in
     let s : length keep - i ≡ length keep = omega arith in
-    (rw z at (f .is), rw s at (f .small))
+    (rw z at (f .is), rw s at (f .small), map-fits f lv ld h)

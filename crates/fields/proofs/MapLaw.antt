@@ -1,11 +1,13 @@
--- A loop that applies a function to each number of a list. Assumes nothing.
+-- Lists of f32s and their bits: a loop that applies a function to each number of a list. Assumes nothing.
 use mathlib.Core.Path.{_≡_, refl, sym, ap, _∙_}
 use mathlib.Core.List.{List, [], _∷_, _++_, append-assoc, append-nil, map}
 use Prim.Native.Nat.{ℕ, suc, _+_, _<_, _≤_}
 use native.Mathlib.Omega.{arith}
 use native.Mathlib.Numerals.{add-one}
-use lib.ListN.{length, set, drop, take, getD, length-set, drop-of-length-le}
+use lib.ListN.{length, set, drop, take, getD, length-set, length-map, drop-of-length-le}
+use lib.Ieee.{Float, binary32, toBits}
 use lib.Seq.{take-all, drop-cons, take-suc-set}
+use Rattle.fields.specs.Numbers.{bitsOf}
 
 module _ {A B : Type 0} (f : A → B) (d : A) where
   -- what holds in each turn: the first i numbers of the result are there
@@ -36,3 +38,7 @@ module _ {A B : Type 0} (f : A → B) (d : A) where
         let all : take i ys ≡ ys = take-all i ys (omega (arith, m .long)) in
         let none : drop i xs ≡ [] = drop-of-length-le xs h in
         sym (rw (all, none) (append-nil ys)) ∙ m .is
+
+pub bits-long : (xs : List Float) → length (bitsOf xs) ≡ length xs
+unfolding bitsOf
+bits-long xs = length-map xs (toBits binary32)

@@ -61,7 +61,7 @@ pub fn read_values(s: &[u8], from: Cursor, map: u64, v: &mut [u32]) -> Cursor
 // The map of the numbers that are written: those with keep 1, and those that missing would not give.
 pub fn map_of(keep: &[u8], v: &[u32], missing: &[u32]) -> u64
     requires { ⌜ (length (now v) ≡ length (now keep)) × (length (now missing) ≡ length (now keep)) × (length (now keep) ≤ 40) ⌝ }
-    ensures { λ r. ⌜ (r ≡ mapOf (numberFields (now (missing .entry))) (now (keep .entry)) (now (v .entry))) × (r < 2 ^ length (now (keep .entry))) ⌝ }
+    ensures { λ r. ⌜ (r ≡ mapOf (numberFields (now (missing .entry))) (now (keep .entry)) (now (v .entry))) × (r < 2 ^ length (now (keep .entry))) × (r < 2 ^ 40) ⌝ }
 {
     let mut m: u64 = 0;
     let mut i = keep.len();

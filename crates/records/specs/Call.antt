@@ -21,6 +21,7 @@ use Rattle.fields.specs.Bytes.{numberAt, bytesOf, hasBytes}
 use Rattle.fields.specs.Fields.{Field, stands, named, sizeOf, valuesAt, mapOf, bodyOf, numberFields}
 use Rattle.fields.specs.Numbers.{floatsOf, bitsOf}
 use Rattle.records.specs.declared.call.ByteRead.{ByteRead}
+use Rattle.records.specs.declared.call.Parts.{Parts}
 use Rattle.records.specs.declared.call.Call.{Call}
 use Rattle.records.specs.declared.call.Call.the-variants.{Prime, Attitude, Rate, Waypoint, AbsoluteAttitude, Land, AbsoluteRate}
 use Rattle.records.specs.declared.call.ReadCall.{ReadCall}
@@ -125,96 +126,82 @@ readCall s at =
 
 -- ---- writing
 
-unfoldable pub kindOf : Call → ℕ
-kindOf Prime = 0
-kindOf (Attitude r dt c) = 1
-kindOf (Rate r dt c) = 2
-kindOf (Waypoint r dt c s cap) = 3
-kindOf (AbsoluteAttitude r dt c) = 4
-kindOf (Land r dt) = 5
-kindOf (AbsoluteRate r dt c) = 6
-
-unfoldable pub regimeByte : FlightRegime → ℕ
+abbrev pub regimeByte : FlightRegime → ℕ
 regimeByte Copter = 0
 regimeByte Plane = 1
 
--- a prime has no regime: what missing would give
-unfoldable pub regimeByteOf : Call → ℕ
-regimeByteOf Prime = 1
-regimeByteOf (Attitude r dt c) = regimeByte r
-regimeByteOf (Rate r dt c) = regimeByte r
-regimeByteOf (Waypoint r dt c s cap) = regimeByte r
-regimeByteOf (AbsoluteAttitude r dt c) = regimeByte r
-regimeByteOf (Land r dt) = regimeByte r
-regimeByteOf (AbsoluteRate r dt c) = regimeByte r
-
-unfoldable pub numberOr0 : OptionF32 → Float
+abbrev pub numberOr0 : OptionF32 → Float
 numberOr0 number.None = zero
 numberOr0 (number.Some x) = x
 
-unfoldable pub hasNumber : OptionF32 → ℕ
+abbrev pub hasNumber : OptionF32 → ℕ
 hasNumber number.None = 0
 hasNumber (number.Some x) = 1
 
-unfoldable pub legNorth : OptionVec2 → Float
+abbrev pub legNorth : OptionVec2 → Float
 legNorth leg.None = zero
 legNorth (leg.Some l) = l .x
 
-unfoldable pub legEast : OptionVec2 → Float
+abbrev pub legEast : OptionVec2 → Float
 legEast leg.None = zero
 legEast (leg.Some l) = l .y
 
-unfoldable pub hasLeg : OptionVec2 → ℕ
+abbrev pub hasLeg : OptionVec2 → ℕ
 hasLeg leg.None = 0
 hasLeg (leg.Some l) = 1
 
--- the numbers of bits 2 to 21 of a command that is no waypoint
-unfoldable pub commandNumbers : Float → Float → Float → Float → Float → List Float
-commandNumbers dt a b c d = dt ∷ a ∷ b ∷ c ∷ d ∷ replicate 15 zero
-
--- and of a waypoint
-unfoldable pub waypointNumbers : Float → WaypointCommand → VehicleState → OptionF32 → List Float
-waypointNumbers dt c s cap =
-    dt ∷ zero ∷ zero ∷ zero ∷ zero ∷
-    c .«position_m» .x ∷ c .«position_m» .y ∷
-    legNorth (c .«velocity_mps») ∷ legEast (c .«velocity_mps») ∷
-    c .«altitude_m» ∷ c .«cruise_speed_mps» ∷
-    s .«position_m» .x ∷ s .«position_m» .y ∷ s .«position_m» .z ∷
-    s .«velocity_mps» .x ∷ s .«velocity_mps» .y ∷ s .«velocity_mps» .z ∷
-    s .«roll_rad» ∷ numberOr0 (s .«airspeed_mps») ∷ numberOr0 cap ∷ []
-
--- the numbers of bits 2 to 21; a number that its kind doesn't use is +0, what missing would give
-unfoldable pub numbersOf : Call → List Float
-numbersOf Prime = replicate 20 zero
-numbersOf (Attitude r dt c) = commandNumbers dt (c .roll) (c .pitch) (c .throttle) zero
-numbersOf (Rate r dt c) = commandNumbers dt (c .«roll_rate») (c .«pitch_rate») (c .«yaw_rate») (c .throttle)
-numbersOf (Waypoint r dt c s cap) = waypointNumbers dt c s cap
-numbersOf (AbsoluteAttitude r dt c) = commandNumbers dt (c .«roll_rad») (c .«pitch_rad») (c .thrust) zero
-numbersOf (Land r dt) = commandNumbers dt zero zero zero zero
-numbersOf (AbsoluteRate r dt c) = commandNumbers dt (c .«roll_radps») (c .«pitch_radps») (c .«yaw_radps») (c .thrust)
+-- What a record has of a call: the two bytes, the numbers of bits 2 to 21, and a 1 for each number that is written whatever
+-- its value. A number that its kind doesn't use is +0, what missing would give, and so is never written.
+unfoldable pub commandParts : ℕ → ℕ → Float → Float → Float → Float → Float → Parts
+commandParts kind regime dt a b c d = record {
+    kind = kind;
+    regime = regime;
+    numbers = dt ∷ a ∷ b ∷ c ∷ d ∷ replicate 15 zero;
+    keeps = replicate 20 0
+  }
 
 -- a leg, an airspeed and a cap that are present are written whatever their values
-unfoldable pub waypointKeeps : OptionVec2 → OptionF32 → OptionF32 → List ℕ
-waypointKeeps l airspeed cap =
-    0 ∷ 0 ∷ 0 ∷ 0 ∷ 0 ∷ 0 ∷ 0 ∷ hasLeg l ∷ hasLeg l ∷ 0 ∷ 0 ∷ 0 ∷ 0 ∷ 0 ∷ 0 ∷ 0 ∷ 0 ∷ 0 ∷ hasNumber airspeed ∷ hasNumber cap ∷ []
+unfoldable pub waypointParts : ℕ → Float → WaypointCommand → VehicleState → OptionF32 → Parts
+waypointParts regime dt c s cap = record {
+    kind = 3;
+    regime = regime;
+    numbers =
+      dt ∷ zero ∷ zero ∷ zero ∷ zero ∷
+      c .«position_m» .x ∷ c .«position_m» .y ∷
+      legNorth (c .«velocity_mps») ∷ legEast (c .«velocity_mps») ∷
+      c .«altitude_m» ∷ c .«cruise_speed_mps» ∷
+      s .«position_m» .x ∷ s .«position_m» .y ∷ s .«position_m» .z ∷
+      s .«velocity_mps» .x ∷ s .«velocity_mps» .y ∷ s .«velocity_mps» .z ∷
+      s .«roll_rad» ∷ numberOr0 (s .«airspeed_mps») ∷ numberOr0 cap ∷ [];
+    keeps =
+      0 ∷ 0 ∷ 0 ∷ 0 ∷ 0 ∷ 0 ∷ 0 ∷ hasLeg (c .«velocity_mps») ∷ hasLeg (c .«velocity_mps») ∷
+      0 ∷ 0 ∷ 0 ∷ 0 ∷ 0 ∷ 0 ∷ 0 ∷ 0 ∷ 0 ∷ hasNumber (s .«airspeed_mps») ∷ hasNumber cap ∷ []
+  }
 
-unfoldable pub keepsOf : Call → List ℕ
-keepsOf Prime = replicate 20 0
-keepsOf (Attitude r dt c) = replicate 20 0
-keepsOf (Rate r dt c) = replicate 20 0
-keepsOf (Waypoint r dt c s cap) = waypointKeeps (c .«velocity_mps») (s .«airspeed_mps») cap
-keepsOf (AbsoluteAttitude r dt c) = replicate 20 0
-keepsOf (Land r dt) = replicate 20 0
-keepsOf (AbsoluteRate r dt c) = replicate 20 0
+-- a prime has no regime: what missing would give
+unfoldable pub partsOf : Call → Parts
+partsOf Prime = commandParts 0 1 zero zero zero zero zero
+partsOf (Attitude r dt c) = commandParts 1 (regimeByte r) dt (c .roll) (c .pitch) (c .throttle) zero
+partsOf (Rate r dt c) = commandParts 2 (regimeByte r) dt (c .«roll_rate») (c .«pitch_rate») (c .«yaw_rate») (c .throttle)
+partsOf (Waypoint r dt c s cap) = waypointParts (regimeByte r) dt c s cap
+partsOf (AbsoluteAttitude r dt c) = commandParts 4 (regimeByte r) dt (c .«roll_rad») (c .«pitch_rad») (c .thrust) zero
+partsOf (Land r dt) = commandParts 5 (regimeByte r) dt zero zero zero zero
+partsOf (AbsoluteRate r dt c) = commandParts 6 (regimeByte r) dt (c .«roll_radps») (c .«pitch_radps») (c .«yaw_radps») (c .thrust)
 
 -- the values of bits 0 to 21
-unfoldable pub valuesOf : Call → List ℕ
-valuesOf c = kindOf c ∷ regimeByteOf c ∷ bitsOf (numbersOf c)
+unfoldable pub valuesOf : Parts → List ℕ
+valuesOf p = p .kind ∷ p .regime ∷ bitsOf (p .numbers)
 
--- the kind is always written
-unfoldable pub callMap : Call → ℕ
-callMap c = mapOf callFields (1 ∷ 0 ∷ keepsOf c) (valuesOf c)
+-- the map; the kind is always written
+unfoldable pub mapOfParts : Parts → ℕ
+mapOfParts p = mapOf callFields (1 ∷ 0 ∷ p .keeps) (valuesOf p)
+
+-- a field of one byte that is written where its bit stands
+unfoldable pub byteOf : ℕ → ℕ → List ℕ
+byteOf m v = cond (stands m) (bytesOf 1 v) []
 
 -- a call's record
 unfoldable pub callRecord : Call → List ℕ
-callRecord c = bytesOf 4 (callMap c) ++ bodyOf callFields (callMap c) (valuesOf c)
+callRecord c =
+    let p = partsOf c in
+    bytesOf 4 (mapOfParts p) ++ bodyOf callFields (mapOfParts p) (valuesOf p)

@@ -2,7 +2,7 @@
 use fields::bytes::{read_number, write_number};
 use fields::{Cursor, Written, count, map_of, read_values, write_values};
 use fields::numbers::{bits, floats};
-use laws::config::{PlaneGuidanceConfig, TecsConfig};
+use laws::config::{PlaneGuidanceConfig, TecsConfig, default};
 use laws::types::Vec3;
 ghost use mathlib.Core.Path.{_≡_};
 ghost use mathlib.Core.List.{_++_};
@@ -124,7 +124,7 @@ fn bits_of(c: PlaneGuidanceConfig) -> [u32; 33]
 fn default_bits() -> [u32; 33]
     ensures { λ r. ⌜ r ≡ bitsOf (numbersOf default) ⌝ }
 {
-    bits_of(PlaneGuidanceConfig::default())
+    bits_of(default())
 }
 
 // The configuration of the bits of 33 numbers.

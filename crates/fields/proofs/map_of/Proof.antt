@@ -47,7 +47,9 @@ loop-again : tie.Need-loop-again Inv-loop μ-loop
 loop-again c = map-turn (c .before .before .before .before .before .loop .inv) (c .before .before .before .before .before .before .before .before .before .pre .0) (c .before .before .before .before .before .before .before .before .before .pre .1) (c .before .before .before .before .loop-test .taken) (c .is-written .result) (c .is-written .ensures .0)
 
 returns : tie.Need-returns Inv-loop μ-loop
-returns c = map-done (c .before .loop .inv) (c .loop-test .left)
+returns c =
+    let p = c .before .before .before .before .before .pre in
+    map-done (c .before .loop .inv) (p .0) (p .1) (p .2) (c .loop-test .left)
 
 pub map-of-spec : {M : Type 1} → statement M
 map-of-spec =
