@@ -61,23 +61,45 @@ fn unsensed(dt: f32, regime: FlightRegime, input: ControlInput) -> Wanted
     })
 }
 
-fn wanted(call: Call) -> Wanted
+fn taken_apart(call: Call) -> Wanted
     ensures { λ r. ⌜ is.asCall r ≡ is.callOf call ⌝ }
 {
     match call {
         Call::Prime => Wanted::Prime,
-        Call::Attitude { regime, dt, command } => unsensed(dt, regime, ControlInput::Attitude(command)),
-        Call::Rate { regime, dt, command } => unsensed(dt, regime, ControlInput::Rate(command)),
-        Call::Waypoint { regime, dt, command, state, cap } => Wanted::Guide(GuideCall {
+        Call::Attitude {
+            regime,
+            dt,
+            command,
+        } => unsensed(dt, regime, ControlInput::Attitude(command)),
+        Call::Rate {
+            regime,
+            dt,
+            command,
+        } => unsensed(dt, regime, ControlInput::Rate(command)),
+        Call::Waypoint {
+            regime,
+            dt,
+            command,
+            state,
+            cap,
+        } => Wanted::Guide(GuideCall {
             dt,
             regime,
             input: ControlInput::Waypoint(command),
             state,
             cap,
         }),
-        Call::AbsoluteAttitude { regime, dt, command } => unsensed(dt, regime, ControlInput::AbsoluteAttitude(command)),
+        Call::AbsoluteAttitude {
+            regime,
+            dt,
+            command,
+        } => unsensed(dt, regime, ControlInput::AbsoluteAttitude(command)),
         Call::Land { regime, dt } => unsensed(dt, regime, ControlInput::Land),
-        Call::AbsoluteRate { regime, dt, command } => unsensed(dt, regime, ControlInput::AbsoluteRate(command)),
+        Call::AbsoluteRate {
+            regime,
+            dt,
+            command,
+        } => unsensed(dt, regime, ControlInput::AbsoluteRate(command)),
     }
 }
 
@@ -100,7 +122,7 @@ fn guided(g: PlaneGuidance, k: GuideCall) -> Performed
 pub fn perform(g: PlaneGuidance, call: Call) -> Performed
     ensures { λ r. ⌜ is.asOutcome r ≡ spec.perform g (is.callOf call) ⌝ }
 {
-    let w = wanted(call);
+    let w = taken_apart(call);
     match w {
         Wanted::Prime => Performed {
             guidance: g.prime(),

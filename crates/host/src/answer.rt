@@ -66,7 +66,11 @@ fn of_setpoint(setpoint: Setpoint, lateral: u32, vertical: u32, next: usize) -> 
     ensures { λ r. ⌜ r ≡ spec.ofSetpoint setpoint lateral vertical next ⌝ }
 {
     match setpoint {
-        Setpoint::Plane { roll_rad, pitch_rad, thrust } => RunAnswer {
+        Setpoint::Plane {
+            roll_rad,
+            pitch_rad,
+            thrust,
+        } => RunAnswer {
             refusal: 0,
             field: 0,
             setpoint: 1,
@@ -78,7 +82,12 @@ fn of_setpoint(setpoint: Setpoint, lateral: u32, vertical: u32, next: usize) -> 
             thrust,
             next,
         },
-        Setpoint::PlaneRate { roll_radps, pitch_radps, yaw_radps, thrust } => RunAnswer {
+        Setpoint::PlaneRate {
+            roll_radps,
+            pitch_radps,
+            yaw_radps,
+            thrust,
+        } => RunAnswer {
             refusal: 0,
             field: 0,
             setpoint: 2,
@@ -103,7 +112,12 @@ fn of_answer(answer: Answer, next: usize) -> RunAnswer
             let setpoint = w.setpoint;
             let lateral = w.laws.lateral;
             let vertical = w.laws.vertical;
-            of_setpoint(setpoint, lateral_number(lateral), vertical_number(vertical), next)
+            of_setpoint(
+                setpoint,
+                lateral_number(lateral),
+                vertical_number(vertical),
+                next,
+            )
         }
     }
 }
@@ -121,5 +135,9 @@ pub fn of_reply(reply: Reply, next: usize) -> RunAnswer
 pub fn of_field(field: u32, next: usize) -> RunAnswer
     ensures { λ r. ⌜ r ≡ spec.ofField «field» next ⌝ }
 {
-    if field == 0 { bare(0, 0, next) } else { bare(1, field, next) }
+    if field == 0 {
+        bare(0, 0, next)
+    } else {
+        bare(1, field, next)
+    }
 }

@@ -1,10 +1,10 @@
 // The one function by reference: the host's guidance is copied out, `run` does the work by value, and what it may have
 // changed is put back.
-use calls::perform;
 use crate::answer::RunAnswer;
 use crate::answer::bare;
 use crate::answer::of_field;
 use crate::answer::of_reply;
+use calls::perform;
 use guidance::plane::Created;
 use guidance::plane::PlaneGuidance;
 use records::call::ReadCall;
