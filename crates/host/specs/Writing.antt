@@ -2,6 +2,7 @@
 use Prim.Native.Nat.{ℕ}
 use mathlib.Core.Bool.{Bool, cond, _||_}
 use mathlib.Core.List.{List}
+use mathlib.Core.Path.{_≡_}
 use lib.Dec.{eqb, ltb}
 use lib.Ieee.{Float}
 use Rattle.laws.specs.Config.{default}
@@ -109,5 +110,6 @@ abbrev pub refusalOf : ModeRefusal → ℕ
 refusalOf why.None = 0
 refusalOf why.Unsupported = 1
 
-abbrev pub modeRefusal : PlaneGuidance → ℕ
-modeRefusal g = refusalOf (flightMode g .refusal)
+-- the report of every guidance with this requested regime
+abbrev pub ReportsMode : ℕ → ℕ → Type 0
+ReportsMode requested r = (g : PlaneGuidance) → g .requested ≡ requested → r ≡ refusalOf (flightMode g .refusal)

@@ -110,8 +110,9 @@ fn of_answer(answer: Answer, next: usize) -> RunAnswer
         Answer::Commanded(setpoint) => of_setpoint(setpoint, 0, 0, next),
         Answer::Waypoint(w) => {
             let setpoint = w.setpoint;
-            let lateral = w.laws.lateral;
-            let vertical = w.laws.vertical;
+            let laws = w.laws;
+            let lateral = laws.lateral;
+            let vertical = laws.vertical;
             of_setpoint(
                 setpoint,
                 lateral_number(lateral),

@@ -20,8 +20,7 @@ use records::config::ReadConfig;
 use records::config::read_config;
 use records::config::write_config;
 ghost use mathlib.Core.Path.{_≡_};
-ghost use Rattle.laws.specs.Config as config;
-ghost use Rattle.guidance.specs.declared.plane.PlaneGuidance.{PlaneGuidance};
+ghost use Rattle.laws.specs.Config as settings;
 ghost use Rattle.host.specs.Writing as spec;
 
 // A call as numbers. kind: as in the record; regime: 0 copter, 1 plane; first to fourth: the command numbers in the order
@@ -234,7 +233,7 @@ pub extern "C" fn nuthkolla_read_config(bytes: &[u8], at: usize) -> ConfigRead
 
 #[no_mangle]
 pub extern "C" fn nuthkolla_default_config() -> PlaneGuidanceConfig
-    ensures { λ r. ⌜ r ≡ config.default ⌝ }
+    ensures { λ r. ⌜ r ≡ settings.default ⌝ }
 {
     default()
 }
@@ -242,7 +241,7 @@ pub extern "C" fn nuthkolla_default_config() -> PlaneGuidanceConfig
 // 0, or the number of the first failing field.
 #[no_mangle]
 pub extern "C" fn nuthkolla_validate(config: PlaneGuidanceConfig) -> u32
-    ensures { λ r. ⌜ r ≡ config.validate «config» ⌝ }
+    ensures { λ r. ⌜ r ≡ settings.validate config ⌝ }
 {
     validate(config)
 }
@@ -250,7 +249,7 @@ pub extern "C" fn nuthkolla_validate(config: PlaneGuidanceConfig) -> u32
 // The flight mode report of a guidance with this requested regime: always plane; 0, or 1 where the request is unsupported.
 #[no_mangle]
 pub extern "C" fn nuthkolla_flight_mode(requested: u32) -> u32
-    ensures { λ r. ⌜ (g : PlaneGuidance) → g .requested ≡ requested → r ≡ spec.modeRefusal g ⌝ }
+    ensures { λ r. ⌜ spec.ReportsMode requested r ⌝ }
 {
     if requested == 0 { 1 } else { 0 }
 }
