@@ -23,22 +23,22 @@ use Rattle.records.specs.declared.call.ReadCall.the-variants as read
 use Rattle.calls.specs.Calls.{callOf}
 use Rattle.host.specs.Run.{ofCall, performed, runCall, run}
 
-either : (b : Bool) {x y : Guided} {c : PlaneGuidanceConfig} → x .guidance .config ≡ c → y .guidance .config ≡ c → cond b x y .guidance .config ≡ c
-either true p q = p
-either false p q = q
+either : (b : Bool) (x y : Guided) {c : PlaneGuidanceConfig} → x .guidance .config ≡ c → y .guidance .config ≡ c → cond b x y .guidance .config ≡ c
+either true x y p q = p
+either false x y p q = q
 
 obeyed-keeps : (g : PlaneGuidance) (dt : Float) (r : FlightRegime) (k : ControlInput) (s : VehicleState) (cap : OptionF32) → obeyed g dt r k s cap .guidance .config ≡ g .config
 unfolding obeyed commanded cleared waypoint
 obeyed-keeps g dt r (Input.Attitude k) s cap = refl
 obeyed-keeps g dt r (Input.Rate k) s cap = refl
-obeyed-keeps g dt r (Input.Waypoint w) s cap = either (badCap cap) refl (either (allFinite _) refl refl)
+obeyed-keeps g dt r (Input.Waypoint w) s cap = either (badCap cap) _ _ refl (either (allFinite _) _ _ refl refl)
 obeyed-keeps g dt r (Input.AbsoluteAttitude k) s cap = refl
 obeyed-keeps g dt r Input.Land s cap = refl
 obeyed-keeps g dt r (Input.AbsoluteRate k) s cap = refl
 
 guided-keeps : (g : PlaneGuidance) (dt : Float) (r : FlightRegime) (k : ControlInput) (s : VehicleState) (cap : OptionF32) → guided g dt r k s cap .guidance .config ≡ g .config
 unfolding guided
-guided-keeps g dt r k s cap = either (badTimeStep dt) refl (obeyed-keeps g dt r k s cap)
+guided-keeps g dt r k s cap = either (badTimeStep dt) _ _ refl (obeyed-keeps g dt r k s cap)
 
 call-keeps : (g : PlaneGuidance) (k : Call) → perform g (callOf k) .next .config ≡ g .config
 unfolding perform primed cleared

@@ -119,57 +119,63 @@ fn call_of(k: CallNumbers) -> Call
     ensures { λ r. ⌜ r ≡ spec.callOf k ⌝ }
 {
     let regime = regime_of(k.regime);
-    if k.kind == 0 {
+    let kind = k.kind;
+    let dt = k.dt;
+    let first = k.first;
+    let second = k.second;
+    let third = k.third;
+    let fourth = k.fourth;
+    if kind == 0 {
         return Call::Prime;
     }
-    if k.kind == 1 {
+    if kind == 1 {
         return Call::Attitude {
             regime,
-            dt: k.dt,
+            dt,
             command: AttitudeCommand {
-                throttle: k.third,
-                roll: k.first,
-                pitch: k.second,
+                throttle: third,
+                roll: first,
+                pitch: second,
             },
         };
     }
-    if k.kind == 2 {
+    if kind == 2 {
         return Call::Rate {
             regime,
-            dt: k.dt,
+            dt,
             command: RateCommand {
-                throttle: k.fourth,
-                roll_rate: k.first,
-                pitch_rate: k.second,
-                yaw_rate: k.third,
+                throttle: fourth,
+                roll_rate: first,
+                pitch_rate: second,
+                yaw_rate: third,
             },
         };
     }
-    if k.kind == 3 {
+    if kind == 3 {
         return waypoint_of(k);
     }
-    if k.kind == 4 {
+    if kind == 4 {
         return Call::AbsoluteAttitude {
             regime,
-            dt: k.dt,
+            dt,
             command: AbsoluteAttitudeCommand {
-                roll_rad: k.first,
-                pitch_rad: k.second,
-                thrust: k.third,
+                roll_rad: first,
+                pitch_rad: second,
+                thrust: third,
             },
         };
     }
-    if k.kind == 5 {
-        return Call::Land { regime, dt: k.dt };
+    if kind == 5 {
+        return Call::Land { regime, dt };
     }
     Call::AbsoluteRate {
         regime,
-        dt: k.dt,
+        dt,
         command: AbsoluteRateCommand {
-            roll_radps: k.first,
-            pitch_radps: k.second,
-            yaw_radps: k.third,
-            thrust: k.fourth,
+            roll_radps: first,
+            pitch_radps: second,
+            yaw_radps: third,
+            thrust: fourth,
         },
     }
 }
@@ -191,13 +197,15 @@ fn place_of(written: Written) -> Place
 pub extern "C" fn nuthkolla_write_call(out: &mut [u8], at: usize, call: CallNumbers) -> Place
     ensures { λ r. ⌜ (r ≡ spec.callPlace call (now (out .entry)) at) × (now (out .exit) ≡ spec.callBuffer call (now (out .entry)) at) ⌝ }
 {
-    if 6 < call.kind {
-        return Place { refusal: 7, next: 0 };
-    }
-    if 1 < call.regime {
-        return Place { refusal: 7, next: 0 };
-    }
+    let kind = call.kind;
+    let regime = call.regime;
     let k = call_of(call);
+    if 6 < kind {
+        return Place { refusal: 7, next: 0 };
+    }
+    if 1 < regime {
+        return Place { refusal: 7, next: 0 };
+    }
     let written = write_call(out, at, k);
     place_of(written)
 }

@@ -18,11 +18,12 @@ returns-2 c =
 returns-3 : tie.Need-returns-3
 unfolding callPlace callBuffer unknown
 returns-3 c =
-    let written = c .before in
-    let call = written .before in
-    let kind = le-ltb _ _ (call .before .before .if1 .left) in
-    let regime = le-ltb _ _ (call .before .if2 .left) in
-    (rw (c .place-of .ensures, written .write-call .ensures .0, call .call-of .ensures, kind, regime), rw (written .write-call .ensures .1, call .call-of .ensures, kind, regime))
+    let written = c .before .before .before in
+    let at-2 = written .before .before in
+    let kind = le-ltb _ _ (at-2 .before .if1 .left) in
+    let regime = le-ltb _ _ (at-2 .if2 .left) in
+    let call = at-2 .before .before .call-of .ensures in
+    (rw (c .place-of .ensures, written .write-call .ensures .0, call, kind, regime), rw (written .write-call .ensures .1, call, kind, regime))
 
 pub nuthkolla-write-call-spec : {M : Type 1} → statement M
-nuthkolla-write-call-spec = tie.close (tie.spec returns returns-2 (λ c κs. tt) (λ c κs. tt) (λ c κs. tt) (λ c. search needs) returns-3)
+nuthkolla-write-call-spec = tie.close (tie.spec (λ c κs. tt) returns returns-2 (λ c κs. tt) (λ c κs. tt) (λ c. search needs) returns-3)

@@ -5,7 +5,7 @@ use Rattle.host.proofs.writing.nuthkolla_write_config.Tie as tie
 
 returns : tie.Need-returns
 unfolding configPlace configBuffer
-returns c = (rw (c .place-of .ensures, c .before .write-config .ensures .0), rw (c .before .write-config .ensures .1))
+returns c = (rw (c .place-of .ensures, c .before .before .before .write-config .ensures .0), rw (c .before .before .before .write-config .ensures .1))
 
 pub nuthkolla-write-config-spec : {M : Type 1} → statement M
 nuthkolla-write-config-spec = tie.close (tie.spec (λ c κs. tt) (λ c κs. tt) (λ c. search needs) returns)
