@@ -13,12 +13,12 @@ use std::io::Read;
 use std::time::Instant;
 
 #[repr(C)]
-#[derive(Clone, Copy, Default)]
+#[derive(Clone, Copy)]
 struct Held([u32; 44]);
 
 #[repr(C)]
 #[derive(Clone, Copy, Default)]
-struct Answer {
+pub struct Answer {
     refusal: u32,
     field: u32,
     setpoint: u32,
@@ -102,6 +102,7 @@ pub extern "C" fn published_run(guidance: *mut PlaneGuidance, bytes: *const u8, 
             answer.setpoint = 2;
             (answer.roll, answer.pitch, answer.yaw, answer.thrust) = (s.roll_radps, s.pitch_radps, s.yaw_radps, s.thrust);
         }
+        _ => unreachable!("a plane's guidance gives no other setpoint"),
     }
     answer
 }
@@ -117,7 +118,7 @@ fn main() {
     let (most, rounds) = (words[0], words[1]);
     let mut input = Vec::new();
     std::io::stdin().read_to_end(&mut input).expect("a recording");
-    let mut ours = Held::default();
+    let mut ours = Held([0; 44]);
     let made = unsafe { nuthkolla_run(&mut ours, 2, input.as_ptr(), input.len()) };
     assert_eq!((made.refusal, made.next), (0, 5), "the bench runs on the default configuration");
     let mut published = PlaneGuidance::new(PlaneGuidanceConfig::default());

@@ -115,6 +115,11 @@ pub extern "C" fn nuthkolla_run(guidance: &mut PlaneGuidance, what: u32, bytes: 
 {
     let g = *guidance;
     let r = run(g, what, bytes);
-    *guidance = r.guidance;
+    if what != 0 {
+        guidance.config = r.guidance.config;
+    }
+    guidance.requested = r.guidance.requested;
+    guidance.altitude = r.guidance.altitude;
+    guidance.tecs = r.guidance.tecs;
     r.answer
 }
