@@ -15,12 +15,11 @@ use Rattle.fields.specs.Writing.{bufferOf}
 use Rattle.fields.specs.Laws.{Laws, Untouched}
 
 module _ {Value Answer : Type 0} (F32 : Value → Type 0) (bytes : Value → List ℕ) (read : List ℕ → ℕ → Answer) (got : Value → ℕ → Answer)
-  -- wherever the record stands, with anything after it
-  (stands : (s : List ℕ) (at : ℕ) (v : Value) (rest : List ℕ) → at ≤ length s → drop at s ≡ bytes v ++ rest → F32 v → read s at ≡ got v (at + length (bytes v)))
-  (held : (s : List ℕ) (at : ℕ) (v : Value) (next : ℕ) → read s at ≡ got v next → F32 v)
-  (no-longer : (s : List ℕ) (at : ℕ) (v : Value) (next : ℕ) → read s at ≡ got v next → at + length (bytes v) ≤ next)
-  (one : (v w : Value) (m n : ℕ) → got v m ≡ got w n → v ≡ w) where
-
+    -- wherever the record stands, with anything after it
+    (stands : (s : List ℕ) (at : ℕ) (v : Value) (rest : List ℕ) → at ≤ length s → drop at s ≡ bytes v ++ rest → F32 v → read s at ≡ got v (at + length (bytes v)))
+    (held : (s : List ℕ) (at : ℕ) (v : Value) (next : ℕ) → read s at ≡ got v next → F32 v)
+    (no-longer : (s : List ℕ) (at : ℕ) (v : Value) (next : ℕ) → read s at ≡ got v next → at + length (bytes v) ≤ next)
+    (one : (v w : Value) (m n : ℕ) → got v m ≡ got w n → v ≡ w) where
   alone : (v : Value) → F32 v → read (bytes v) 0 ≡ got v (length (bytes v))
   alone v f = let z : 0 + length (bytes v) ≡ length (bytes v) = omega arith in rw z at (stands (bytes v) 0 v [] (omega arith) (sym (append-nil (bytes v))) f)
 
@@ -31,8 +30,8 @@ module _ {Value Answer : Type 0} (F32 : Value → Type 0) (bytes : Value → Lis
       let l : length (take at out) ≡ at = length-take-le at out (omega arith) in
       rw e
       (stands (putAt out at (bytes v)) at v (drop (at + length (bytes v)) out)
-        (simp length-append (omega arith))
-        (drop-at (take at out) (bytes v ++ drop (at + length (bytes v)) out) at l) f)
+      (simp length-append (omega arith))
+      (drop-at (take at out) (bytes v ++ drop (at + length (bytes v)) out) at l) f)
 
   same-bytes : (v w : Value) → F32 v → F32 w → bytes v ≡ bytes w → v ≡ w
   same-bytes v w f g e = one v w (length (bytes v)) (length (bytes w)) (sym (alone v f) ∙ ap (λ (s : List ℕ). read s 0) e ∙ alone w g)
@@ -42,7 +41,7 @@ module _ {Value Answer : Type 0} (F32 : Value → Type 0) (bytes : Value → Lis
       record {
         back = written;
         again = λ s at v next e. (no-longer s at v next e, alone v (held s at v next e));
-        same = λ v w f g. (same-bytes v w f g, λ (e : v ≡ w). ap bytes e)
+        same = λ v w f g. (same-bytes v w f g, λ (e : v ≡ w). ap bytes e);
       }
 
 -- ---- what a write leaves untouched

@@ -30,7 +30,7 @@ module _ {A B : Type 0} (f : A → B) (d : A) where
         record {
           below = omega arith;
           long = simp length-set (m .long);
-          is = rw (front, e) (append-assoc (take i ys) (f (getD xs i d) ∷ []) (map f (drop (i + 1) xs)) ∙ ap (λ (l : List B). take i ys ++ l) (sym (first h)) ∙ m .is)
+          is = rw (front, e) (append-assoc (take i ys) (f (getD xs i d) ∷ []) (map f (drop (i + 1) xs)) ∙ ap (λ (l : List B). take i ys ++ l) (sym (first h)) ∙ m .is);
         }
 
     pub done : length xs ≤ i → ys ≡ map f xs

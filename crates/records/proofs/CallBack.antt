@@ -385,9 +385,10 @@ module _ (m : ℕ) (s : List ℕ) (v : List Float) (ev : v ≡ floatsOf (valuesA
 
     leg-left : (stands (halved 7 (m / 2 / 2)) ≡ false → isWritten (hasLeg (legOf (m / 2 ^ 9) (spec.at v 9) (spec.at v 10))) (toBits binary32 (legNorth (legOf (m / 2 ^ 9) (spec.at v 9) (spec.at v 10)))) 0 ≡ false)
         × (stands (halved 8 (m / 2 / 2)) ≡ false → isWritten (hasLeg (legOf (m / 2 ^ 9) (spec.at v 9) (spec.at v 10))) (toBits binary32 (legEast (legOf (m / 2 ^ 9) (spec.at v 9) (spec.at v 10)))) 0 ≡ false)
-    leg-left =
-        (λ e. legs-left (m / 2 ^ 9) (spec.at v 9) (spec.at v 10) (sym (at-bit 7 9 refl) ∙ e) .0,
-          λ e. legs-left (m / 2 ^ 9) (spec.at v 9) (spec.at v 10) (ap (λ (x : ℕ). eqb x 1) q ∙ sym (at-bit 8 10 refl) ∙ e) .1)
+    leg-left = (
+      λ e. legs-left (m / 2 ^ 9) (spec.at v 9) (spec.at v 10) (sym (at-bit 7 9 refl) ∙ e) .0,
+      λ e. legs-left (m / 2 ^ 9) (spec.at v 9) (spec.at v 10) (ap (λ (x : ℕ). eqb x 1) q ∙ sym (at-bit 8 10 refl) ∙ e) .1,
+    )
 
     airspeed-left : stands (halved 18 (m / 2 / 2)) ≡ false → isWritten (hasNumber (optionOf (m / 2 ^ 20) (spec.at v 20))) (toBits binary32 (numberOr0 (optionOf (m / 2 ^ 20) (spec.at v 20)))) 0 ≡ false
     airspeed-left e = option-left (m / 2 ^ 20) (spec.at v 20) (sym (at-bit 18 20 refl) ∙ e)
@@ -425,9 +426,10 @@ module _ (m : ℕ) (s : List ℕ) (v : List Float) (ev : v ≡ floatsOf (valuesA
         → let c = callOf kind (regimeOf g) m v in Within callFields (Flags c) (valuesOf (partsOf c)) m
     unfolding Within valuesOf
     within kind g k e =
-        rw fields-are
-        (λ (x : stands m ≡ false). absurd (subst T (sym k ∙ x) tt),
-          (λ (x : stands (m / 2) ≡ false). rw (e x, plane-is) (regime-within kind), numbers-within kind (regimeOf g)))
+        rw fields-are (
+          λ (x : stands m ≡ false). absurd (subst T (sym k ∙ x) tt),
+          (λ (x : stands (m / 2) ≡ false). rw (e x, plane-is) (regime-within kind), numbers-within kind (regimeOf g)),
+        )
 
 -- ---- the laws
 

@@ -215,7 +215,7 @@ module _ (p₀ p₁ p₂ p₃ p₄ : List ℕ) (m k g second third : ℕ) (v : L
       let q₃ : p₃ ≡ putAt p₀ 0 ((bytesOf 4 m ++ byteOf m k) ++ byteOf (m / 2) g) = put-next p₀ 0 second (bytesOf 4 m ++ byteOf m k) (byteOf (m / 2) g) q₂ (omega (arith, l₂, es)) (omega (arith, es)) e₃ in
       let q₄ : p₄ ≡ putAt p₀ 0 (((bytesOf 4 m ++ byteOf m k) ++ byteOf (m / 2) g) ++ bodyOf (numberFields v) (m / 4) v) = put-next p₀ 0 third ((bytesOf 4 m ++ byteOf m k) ++ byteOf (m / 2) g) (bodyOf (numberFields v) (m / 4) v) q₃ (omega (arith, l₃, es, et)) (omega (arith, es, et)) e₄ in
       let order : ((bytesOf 4 m ++ byteOf m k) ++ byteOf (m / 2) g) ++ bodyOf (numberFields v) (m / 4) v ≡ bytesOf 4 m ++ bodyOf callFields m (k ∷ g ∷ v) =
-          append-assoc (bytesOf 4 m ++ byteOf m k) (byteOf (m / 2) g) _ ∙ append-assoc (bytesOf 4 m) (byteOf m k) _ ∙ ap (λ (x : List ℕ). bytesOf 4 m ++ x) (sym (body-is m k g v l)) in
+      append-assoc (bytesOf 4 m ++ byteOf m k) (byteOf (m / 2) g) _ ∙ append-assoc (bytesOf 4 m) (byteOf m k) _ ∙ ap (λ (x : List ℕ). bytesOf 4 m ++ x) (sym (body-is m k g v l)) in
       q₄ ∙ ap (putAt p₀ 0) order
 
 -- what is written is the call's record

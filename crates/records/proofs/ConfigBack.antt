@@ -113,7 +113,7 @@ within (x ∷ xs) h m s = go (stands m) refl (λ (r : List ℕ). within xs (h .1
   where
     go : (b : Bool) → stands m ≡ b → ((r : List ℕ) → Within (numberFields (bitsOf xs)) (replicate (length xs) 0) (bitsOf (floatsOf (valuesAt (numberFields (bitsOf xs)) (m / 2) r))) (m / 2))
         → Within (numberFields (bitsOf (x ∷ xs))) (replicate (length (x ∷ xs)) 0) (bitsOf (floatsOf (cond b
-          (numberAt 4 s ∷ valuesAt (numberFields (bitsOf xs)) (m / 2) (drop 4 s)) (toBits binary32 x ∷ valuesAt (numberFields (bitsOf xs)) (m / 2) s)))) m
+        (numberAt 4 s ∷ valuesAt (numberFields (bitsOf xs)) (m / 2) (drop 4 s)) (toBits binary32 x ∷ valuesAt (numberFields (bitsOf xs)) (m / 2) s)))) m
     go true e ih = (λ (q : stands m ≡ false). absurd (subst T (sym e ∙ q) tt), ih (drop 4 s))
     go false e ih = (λ (q : stands m ≡ false). rw (ofBits-toBits binary32 x (h .0), eq-eqb (toBits binary32 x) (toBits binary32 x) refl), ih s)
 
@@ -130,7 +130,6 @@ module _ (s : List ℕ) (at : ℕ) where
   read-long = floats-length values ∙ values-long configFields mapAt (drop (at + 5) s) ∙ fields-long
 
 module _ (s : List ℕ) (at : ℕ) (c : PlaneGuidanceConfig) (next : ℕ) (e : readConfig s at ≡ Read c next) where
-
   answered : (configOf (floatsOf (values s at)) ≡ c) × (at + (5 + sizeOf configFields (mapAt s at)) ≡ next)
   unfolding readConfig values
   answered = inverted (hasBytes s at 5) (named configFields (mapAt s at)) (hasBytes s at (5 + sizeOf configFields (mapAt s at))) _ c _ next e
