@@ -1,0 +1,2 @@
+-- Laws of the desk program.
+pub mod Law
