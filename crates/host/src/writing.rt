@@ -68,19 +68,31 @@ pub struct ConfigRead {
 fn regime_of(n: u32) -> FlightRegime
     ensures { λ r. ⌜ r ≡ spec.regimeOf n ⌝ }
 {
-    if n == 0 { FlightRegime::Copter } else { FlightRegime::Plane }
+    if n == 0 {
+        FlightRegime::Copter
+    } else {
+        FlightRegime::Plane
+    }
 }
 
 fn option_of(flag: u32, x: f32) -> OptionF32
     ensures { λ r. ⌜ r ≡ spec.optionOf flag x ⌝ }
 {
-    if flag == 0 { OptionF32::None } else { OptionF32::Some(x) }
+    if flag == 0 {
+        OptionF32::None
+    } else {
+        OptionF32::Some(x)
+    }
 }
 
 fn leg_of(flag: u32, north: f32, east: f32) -> OptionVec2
     ensures { λ r. ⌜ r ≡ spec.legOf flag north east ⌝ }
 {
-    if flag == 0 { OptionVec2::None } else { OptionVec2::Some(Vec2 { x: north, y: east }) }
+    if flag == 0 {
+        OptionVec2::None
+    } else {
+        OptionVec2::Some(Vec2 { x: north, y: east })
+    }
 }
 
 fn waypoint_of(k: CallNumbers) -> Call
@@ -201,10 +213,16 @@ pub extern "C" fn nuthkolla_write_call(out: &mut [u8], at: usize, call: CallNumb
     let regime = call.regime;
     let k = call_of(call);
     if 6 < kind {
-        return Place { refusal: 7, next: 0 };
+        return Place {
+            refusal: 7,
+            next: 0,
+        };
     }
     if 1 < regime {
-        return Place { refusal: 7, next: 0 };
+        return Place {
+            refusal: 7,
+            next: 0,
+        };
     }
     let written = write_call(out, at, k);
     place_of(written)
@@ -212,7 +230,11 @@ pub extern "C" fn nuthkolla_write_call(out: &mut [u8], at: usize, call: CallNumb
 
 // Writes a configuration's record at a place; number 8 for too little room.
 #[no_mangle]
-pub extern "C" fn nuthkolla_write_config(out: &mut [u8], at: usize, config: PlaneGuidanceConfig) -> Place
+pub extern "C" fn nuthkolla_write_config(
+    out: &mut [u8],
+    at: usize,
+    config: PlaneGuidanceConfig,
+) -> Place
     ensures { λ r. ⌜ (r ≡ spec.configPlace config (now (out .entry)) at) × (now (out .exit) ≡ spec.configBuffer config (now (out .entry)) at) ⌝ }
 {
     let written = write_config(out, at, config);

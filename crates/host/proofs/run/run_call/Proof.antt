@@ -13,12 +13,13 @@ returns-2 : tie.Need-returns-2
 unfolding runCall performed
 returns-2 c =
     let done = c .before .before .perform .ensures in
-    rw
-    (c .of-reply .ensures,
-    ap (λ (o : Outcome). o .reply) done,
-    ap (λ (o : Outcome). o .next) done,
-    ← c .before .before .before .before .before .before .read-call .ensures,
-    c .before .before .before .before .read2 .given .1)
+    rw (
+      c .of-reply .ensures,
+      ap (λ (o : Outcome). o .reply) done,
+      ap (λ (o : Outcome). o .next) done,
+      ← c .before .before .before .before .before .before .read-call .ensures,
+      c .before .before .before .before .read2 .given .1,
+    )
 
 pub run-call-spec : {M : Type 1} → statement M
 run-call-spec = tie.close (tie.spec (λ c κs. tt) (λ c. search needs) (λ c. search needs) (λ c κs. tt) (λ c. search needs) (λ c κs. tt) (λ c κs. tt) returns returns-2)

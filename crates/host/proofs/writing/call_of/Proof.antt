@@ -29,13 +29,14 @@ unfolding callOf
 returns-5 c =
     let at-4 = c .before in
     let at-2 = at-4 .before .before in
-    rw
-    (at-2 .before .before .regime-of .ensures,
-    ne-eqb _ _ (at-2 .before .if1 .left),
-    ne-eqb _ _ (at-2 .if2 .left),
-    ne-eqb _ _ (at-4 .before .if3 .left),
-    ne-eqb _ _ (at-4 .if4 .left),
-    eq-eqb _ _ (c .if5 .taken))
+    rw (
+      at-2 .before .before .regime-of .ensures,
+      ne-eqb _ _ (at-2 .before .if1 .left),
+      ne-eqb _ _ (at-2 .if2 .left),
+      ne-eqb _ _ (at-4 .before .if3 .left),
+      ne-eqb _ _ (at-4 .if4 .left),
+      eq-eqb _ _ (c .if5 .taken),
+    )
 
 returns-6 : tie.Need-returns-6
 unfolding callOf
@@ -43,14 +44,15 @@ returns-6 c =
     let at-5 = c .before in
     let at-4 = at-5 .before in
     let at-2 = at-4 .before .before in
-    rw
-    (at-2 .before .before .regime-of .ensures,
-    ne-eqb _ _ (at-2 .before .if1 .left),
-    ne-eqb _ _ (at-2 .if2 .left),
-    ne-eqb _ _ (at-4 .before .if3 .left),
-    ne-eqb _ _ (at-4 .if4 .left),
-    ne-eqb _ _ (at-5 .if5 .left),
-    eq-eqb _ _ (c .if6 .taken))
+    rw (
+      at-2 .before .before .regime-of .ensures,
+      ne-eqb _ _ (at-2 .before .if1 .left),
+      ne-eqb _ _ (at-2 .if2 .left),
+      ne-eqb _ _ (at-4 .before .if3 .left),
+      ne-eqb _ _ (at-4 .if4 .left),
+      ne-eqb _ _ (at-5 .if5 .left),
+      eq-eqb _ _ (c .if6 .taken),
+    )
 
 returns-7 : tie.Need-returns-7
 unfolding callOf
@@ -58,14 +60,15 @@ returns-7 c =
     let at-5 = c .before in
     let at-4 = at-5 .before in
     let at-2 = at-4 .before .before in
-    rw
-    (at-2 .before .before .regime-of .ensures,
-    ne-eqb _ _ (at-2 .before .if1 .left),
-    ne-eqb _ _ (at-2 .if2 .left),
-    ne-eqb _ _ (at-4 .before .if3 .left),
-    ne-eqb _ _ (at-4 .if4 .left),
-    ne-eqb _ _ (at-5 .if5 .left),
-    ne-eqb _ _ (c .if6 .left))
+    rw (
+      at-2 .before .before .regime-of .ensures,
+      ne-eqb _ _ (at-2 .before .if1 .left),
+      ne-eqb _ _ (at-2 .if2 .left),
+      ne-eqb _ _ (at-4 .before .if3 .left),
+      ne-eqb _ _ (at-4 .if4 .left),
+      ne-eqb _ _ (at-5 .if5 .left),
+      ne-eqb _ _ (c .if6 .left),
+    )
 
 pub call-of-spec : {M : Type 1} → statement M
 call-of-spec = tie.close (tie.spec (λ c κs. tt) returns returns-2 returns-3 (λ c κs. tt) returns-4 returns-5 returns-6 returns-7)
