@@ -1,5 +1,5 @@
--- `nuthkolla_run` meets its contract: a walk of its MIR, by hand. The borrow is opened, the guidance is copied out of it, `run` is called on the copy, the guidance that it returned is stored, and the borrow is closed at it. The record's bytes are lent on to `run`.
--- All that the proof knows of `run` is that it meets its contract. No line depends on the fields of the guidance or of the answer.
+-- `nuthkolla_run` meets its contract: a walk of its MIR, by hand. The borrow is opened, the guidance is copied out of it, `run` is called on the copy, and the borrow is closed at the guidance that `run` returned: the configuration is stored where the number is not 0, and is the same where it is; then the other fields are stored. The record's bytes are lent on to `run`.
+-- All that the proof knows of `run` is that it meets its contract, and of its definition that a call keeps the configuration.
 -- Assumes nothing.
 use mathlib.Core.Path.{_≡_, refl, ap, sym, _∙_}
 use mathlib.Core.Bool.{Bool, true, false, not}
@@ -78,15 +78,16 @@ Arg = RefT PlaneGuidance × (ℕ × (RefT (List ℕ) × Unit {0}))
 abbrev stayed : Stays (f.ended .signature .params) (f.ended .kept)
 stayed = (stay-ref (0 ∷ []) tt (plain (λ _. T.the-row)), (stay-none (λ _. u32) yes, (stay-none-slice (1 ∷ []) tt (plain (λ _. u8)) yes, tt)))
 
+-- what is not put back is as it was
 same-config : (h : PlaneGuidance) (n : ℕ) (s : List ℕ) (r : Ran) → n ≡ 0 → r ≡ runOf h n s → h .config ≡ r .guidance .config
 same-config h n s r z e = sym (ap (λ (y : Ran). y .guidance .config) (e ∙ ap (λ (m : ℕ). runOf h m s) z) ∙ run-keeps h s)
 
-twice : (t : Bool) → T (not (not t)) → T t
-twice true z = z
-twice false z = z
+double-not : (t : Bool) → T (not (not t)) → T t
+double-not true z = z
+double-not false z = z
 
 is-zero : (n : ℕ) → T (not (not (eqb n 0))) → n ≡ 0
-is-zero n z = eqb→eq n 0 (twice (eqb n 0) z)
+is-zero n z = eqb→eq n 0 (double-not (eqb n 0) z)
 
 -- the contract that the proof cites
 abbrev Run : {M : Type 1} (𝓤 : URA M) (H : Heap 𝓤) (A : Atoms 𝓤) (at-mem : Memory → SProp 𝓤) (run : Routine → Fun 𝓤) → Contract 𝓤
@@ -168,15 +169,15 @@ module _ {M : Type 1} (𝓤 : URA M) (H : Heap 𝓤) (A : Atoms 𝓤) (W : Given
   abbrev bytes-ty : Ty
   bytes-ty = sliceTy (tyRef (named 1) imm (tyInt w8))
 
-  -- the first twenty entries of a context
-  abbrev all : List ℕ
-  all = 0 ∷ 1 ∷ 2 ∷ 3 ∷ 4 ∷ 5 ∷ 6 ∷ 7 ∷ 8 ∷ 9 ∷ 10 ∷ 11 ∷ 12 ∷ 13 ∷ 14 ∷ 15 ∷ 16 ∷ 17 ∷ 18 ∷ 19 ∷ []
+  -- the entries of `Before`
+  abbrev twenty : List ℕ
+  twenty = 0 ∷ 1 ∷ 2 ∷ 3 ∷ 4 ∷ 5 ∷ 6 ∷ 7 ∷ 8 ∷ 9 ∷ 10 ∷ 11 ∷ 12 ∷ 13 ∷ 14 ∷ 15 ∷ 16 ∷ 17 ∷ 18 ∷ 19 ∷ []
 
   module _ (C : Calls 𝓤 H) (Λ : Loops 𝓤 H) (r : Ran) (ok : Is u32 n (vint w32 n ∷ [])) (is : Is S.the-row r (mach′ r ∷ [])) (e : r ≡ runOf h n (now s)) (l₀ l₁ l₂ l₃ l₄ l₅ l₆ : ℕ) where
     abbrev Locals : Env 𝓤 H
     Locals = (O′.mir, l₀) ∷ (ref-ty, l₁) ∷ (tyInt w32, l₂) ∷ (bytes-ty, l₃) ∷ (T′.mir, l₄) ∷ (S′.mir, l₅) ∷ (tyBool, l₆) ∷ []
 
-    -- once the configuration stands: the slice's token; what the slice owns; the guidance's cell; the open borrow; obs; auth; _6 to _1; room for _0
+    -- after the call, with y in the guidance's cell: the slice's token; what the slice owns; the guidance's cell; the open borrow; obs; auth; _6 to _1; room for _0
     abbrev Before : PlaneGuidance → List (Item 𝓤)
     Before y =
         (‵ (flft κ′ q′) ⊛ ‵ ftrue) ∷ ‵ Own ∷ ‵ (fat fullShare T′.mir b o (mach y)) ∷ ‵ (fobor κ q (Body (mem T.the-row) b o γ)) ∷ ‵ (fobs γ (T.the-row .coded .code h)) ∷ ‵ (fauth γ (T.the-row .coded .code h)) ∷
@@ -184,6 +185,7 @@ module _ {M : Type 1} (𝓤 : URA M) (H : Heap 𝓤) (A : Atoms 𝓤) (W : Given
         ‵ (fat fullShare bytes-ty l₃ 0 v) ∷ ‵ (fdies bytes-ty l₃) ∷ ‵ (fat fullShare (tyInt w32) l₂ 0 (vint w32 n)) ∷ ‵ (fdies (tyInt w32) l₂) ∷ ‵ (fat fullShare ref-ty l₁ 0 (vptr b o)) ∷ ‵ (fdies ref-ty l₁) ∷
         ‵ (froom O′.mir l₀ 0) ∷ ‵ (fdies O′.mir l₀) ∷ []
 
+    -- from the second field on
     puts-back : Sq W (Before (with-config (r .guidance .config))) (runs C Λ Locals parts.t-5 (atRet Locals Post))
     puts-back =
         assigns ! (of-opd ! (load ! (from ! (fld ! refl (fld ! refl (stop !)))) (look-in ! 8 (sub ! 1 refl (sub ! 0 refl (whole !)))))) (from ! (hop ! (look ! 16 refl) (fld ! refl (stop !)))) (store-in ! 2 (sub ! 1 refl (whole !)) (tt, record { fits = requested-of r is .1 })) $
@@ -200,6 +202,7 @@ module _ {M : Type 1} (𝓤 : URA M) (H : Heap 𝓤) (A : Atoms 𝓤) (W : Given
     abbrev Then : Kit.Post 𝓤 H
     Then = anyQ (afterSeq 𝓤 H (Wp 𝓤 H C Λ Locals parts.t-5 (atReturn 𝓤 H Locals Post)) (atReturn 𝓤 H Locals Post))
 
+    -- the branch
     puts-config : Sq W (Before h) (runs C Λ Locals parts.s-4 Then)
     puts-config =
         branches ! (load ! (from ! (stop !)) (look ! 6 refl))
@@ -240,7 +243,7 @@ module _ {M : Type 1} (𝓤 : URA M) (H : Heap 𝓤) (A : Atoms 𝓤) (W : Given
         peeks ! S.the-row (Is S.the-row) (shows 𝓤 H A S.the-row) r (mach′ r ∷ []) (λ is. drop ! $
         -- [the slice's token; what the slice owns; the guidance's cell; the open borrow; obs; auth; _6; …; _5; …; _4; …; _3; …; _2; …; _1; …; room for _0; …]
         assigns ! (bin ! (load ! (from ! (stop !)) (look ! 14 refl)) (lit ! tt) tt) (from ! (stop !)) (init ! 6 refl (tt, tt)) $
-        keep ! all $ ends C Λ r ok is e l₀ l₁ l₂ l₃ l₄ l₅ l₆))))))))))))))
+        keep ! twenty $ ends C Λ r ok is e l₀ l₁ l₂ l₃ l₄ l₅ l₆))))))))))))))
 
 module _ {M : Type 1} (𝓤 : URA M) (H : Heap 𝓤) (A : Atoms 𝓤) (W : Given 𝓤 H A) (at-mem : Memory → SProp 𝓤) (run : Routine → Fun 𝓤) where
   walks : (C : Calls 𝓤 H) (Λ : Loops 𝓤 H) → FmC 𝓤 H (W .laws) C → Triple 𝓤 (C #host·run·run) (Run 𝓤 H A at-mem run) → Walks 𝓤 H A f.ended stayed (WpFn 𝓤 H C Λ code.function) (f.clauses 𝓤 H A at-mem run)
