@@ -32,7 +32,7 @@ use Rattle.lines.specs.Line.{text}
 use Rattle.lines.proofs.TextLaw.{text-short}
 use Rattle.replay.specs.declared.turn.Performed.{Performed}
 use Rattle.replay.specs.Recording.{Calls, noCalls, onRead, readCalls, stops, recording}
-use Rattle.replay.specs.Text.{callOf, refusedLine, stoppedLine, primeLine, setpointLine, answerLine, replyLine, callLines, runLines, recordingLines, linesText, recordingText}
+use Rattle.replay.specs.Text.{refusedLine, stoppedLine, primeLine, setpointLine, answerLine, replyLine, callLines, runLines, recordingLines, linesText, recordingText}
 use Rattle.replay.specs.Performed.{performedOf}
 use Rattle.replay.specs.Pass.{Prints, callsText}
 use Rattle.replay.proofs.PrintLaw.{Printed, printed-none, printed-room, printed-more, printed-all, printed-last, last-room}

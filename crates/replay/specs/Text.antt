@@ -4,13 +4,10 @@ use mathlib.Core.List.{List, [], _∷_, _++_}
 use Prim.Native.Nat.{ℕ, _+_}
 use lib.Dec.{eqb}
 use lib.ListN.{length}
-use lib.Ieee.{Float, binary32, ofBits, toBits}
+use lib.Ieee.{Float, binary32, toBits}
 use Rattle.laws.specs.Config.{validate}
-use Rattle.laws.specs.declared.types.OptionF32.the-variants.{None}
-use Rattle.laws.specs.declared.types.ControlInput.the-variants as Input
 use Rattle.laws.specs.declared.types.Setpoint.{Setpoint}
 use Rattle.laws.specs.declared.types.Setpoint.the-variants as Set
-use Rattle.laws.specs.declared.types.VehicleState.{VehicleState}
 use Rattle.guidance.specs.Plane.{fresh}
 use Rattle.guidance.specs.Calls as guidance
 use Rattle.guidance.specs.Calls.{Reply, perform}
@@ -21,38 +18,12 @@ use Rattle.guidance.specs.declared.plane.VerticalLaw.{VerticalLaw}
 use Rattle.guidance.specs.declared.plane.VerticalLaw.the-variants as Vertical
 use Rattle.guidance.specs.declared.plane.Answer.{Answer}
 use Rattle.guidance.specs.declared.plane.Answer.the-variants as Answered
-use Rattle.records.specs.declared.call.Call.{Call}
-use Rattle.records.specs.declared.call.Call.the-variants.{Prime, Attitude, Rate, Waypoint, AbsoluteAttitude, Land, AbsoluteRate}
+use Rattle.calls.specs.Calls.{callOf}
 use Rattle.lines.specs.declared.Line.{Line}
 use Rattle.lines.specs.declared.Word.{Word}
 use Rattle.lines.specs.declared.Word.the-variants as word
 use Rattle.lines.specs.Line.{text}
 use Rattle.replay.specs.Recording.{Recorded, Calls, Ending, ends, stops, Recording, badConfig, recorded, recording}
-
--- ---- the call that a record holds
-
--- +0
-abbrev pub zero : Float
-zero = ofBits binary32 0
-
--- what a command other than a waypoint is given, and does not read
-abbrev pub noSensors : VehicleState
-noSensors = record {
-  «position_m» = record { x = zero; y = zero; z = zero };
-  «velocity_mps» = record { x = zero; y = zero; z = zero };
-  «roll_rad» = zero;
-  «airspeed_mps» = None;
-}
-
--- demand 3's call
-unfoldable pub callOf : Call → guidance.Call
-callOf Prime = guidance.prime
-callOf (Attitude regime dt k) = guidance.guide dt regime (Input.Attitude k) noSensors None
-callOf (Rate regime dt k) = guidance.guide dt regime (Input.Rate k) noSensors None
-callOf (Waypoint regime dt k s cap) = guidance.guide dt regime (Input.Waypoint k) s cap
-callOf (AbsoluteAttitude regime dt k) = guidance.guide dt regime (Input.AbsoluteAttitude k) noSensors None
-callOf (Land regime dt) = guidance.guide dt regime Input.Land noSensors None
-callOf (AbsoluteRate regime dt k) = guidance.guide dt regime (Input.AbsoluteRate k) noSensors None
 
 -- ---- the forms of a line; number 0 is the configuration
 

@@ -1,108 +1,22 @@
 // What a recorded call does, and its line.
+use calls::Reply;
 use fields::bytes::to_bits;
 use guidance::plane::Answer;
 use guidance::plane::LateralLaw;
 use guidance::plane::PlaneGuidance;
 use guidance::plane::VerticalLaw;
-use laws::types::ControlInput;
-use laws::types::FlightRegime;
-use laws::types::OptionF32;
 use laws::types::Setpoint;
-use laws::types::Vec3;
-use laws::types::VehicleState;
 use lines::Line;
 use lines::Word;
 use records::call::Call;
 ghost use mathlib.Core.Path.{_≡_};
 ghost use Rattle.replay.specs.Text as spec;
-ghost use Rattle.replay.specs.Performed.{requestCall, performedOf};
-
-// What `guide_capped` is given.
-pub struct Guide {
-    pub dt: f32,
-    pub regime: FlightRegime,
-    pub input: ControlInput,
-    pub state: VehicleState,
-    pub cap: OptionF32,
-}
-
-pub enum Request {
-    Prime,
-    Guide(Guide),
-}
+ghost use Rattle.calls.specs.Calls.{asReply};
+ghost use Rattle.replay.specs.Performed.{performedOf};
 
 pub struct Performed {
     pub line: Line,
     pub guidance: PlaneGuidance,
-}
-
-// A command other than a waypoint, which reads no sensors and no cap.
-fn command(dt: f32, regime: FlightRegime, input: ControlInput) -> Request
-    ensures { λ r. ⌜ r ≡ Request.Guide (record { dt = dt; regime = regime; input = input; state = spec.noSensors; cap = OptionF32.None }) ⌝ }
-{
-    Request::Guide(Guide {
-        dt,
-        regime,
-        input,
-        state: VehicleState {
-            position_m: Vec3 {
-                x: 0.0,
-                y: 0.0,
-                z: 0.0,
-            },
-            velocity_mps: Vec3 {
-                x: 0.0,
-                y: 0.0,
-                z: 0.0,
-            },
-            roll_rad: 0.0,
-            airspeed_mps: OptionF32::None,
-        },
-        cap: OptionF32::None,
-    })
-}
-
-// So that guide_capped is called from one place.
-fn request_of(call: Call) -> Request
-    ensures { λ r. ⌜ requestCall r ≡ spec.callOf call ⌝ }
-{
-    match call {
-        Call::Prime => Request::Prime,
-        Call::Attitude {
-            regime,
-            dt,
-            command: k,
-        } => command(dt, regime, ControlInput::Attitude(k)),
-        Call::Rate {
-            regime,
-            dt,
-            command: k,
-        } => command(dt, regime, ControlInput::Rate(k)),
-        Call::Waypoint {
-            regime,
-            dt,
-            command: k,
-            state,
-            cap,
-        } => Request::Guide(Guide {
-            dt,
-            regime,
-            input: ControlInput::Waypoint(k),
-            state,
-            cap,
-        }),
-        Call::AbsoluteAttitude {
-            regime,
-            dt,
-            command: k,
-        } => command(dt, regime, ControlInput::AbsoluteAttitude(k)),
-        Call::Land { regime, dt } => command(dt, regime, ControlInput::Land),
-        Call::AbsoluteRate {
-            regime,
-            dt,
-            command: k,
-        } => command(dt, regime, ControlInput::AbsoluteRate(k)),
-    }
 }
 
 // A line of a word and a refusal's number, 0 for none.
@@ -237,28 +151,24 @@ fn answer_line(number: u32, answer: Answer) -> Line
     }
 }
 
+fn reply_line(number: u32, reply: Reply) -> Line
+    ensures { λ r. ⌜ r ≡ spec.replyLine number (asReply reply) ⌝ }
+{
+    match reply {
+        Reply::Answered(answer) => answer_line(number, answer),
+        Reply::Primed => prime_line(number),
+    }
+}
+
 // A call's line, and the guidance after it.
 pub fn perform(number: u32, g: PlaneGuidance, call: Call) -> Performed
     ensures { λ r. ⌜ r ≡ performedOf number g call ⌝ }
 {
-    let a = request_of(call);
-    match a {
-        Request::Prime => Performed {
-            line: prime_line(number),
-            guidance: g.prime(),
-        },
-        Request::Guide(k) => {
-            let regime = k.regime;
-            let input = k.input;
-            let state = k.state;
-            let cap = k.cap;
-            let guided = g.guide_capped(k.dt, regime, input, state, cap);
-            let answer = guided.answer;
-            let guidance = guided.guidance;
-            Performed {
-                line: answer_line(number, answer),
-                guidance,
-            }
-        }
+    let done = calls::perform(g, call);
+    let guidance = done.guidance;
+    let reply = done.reply;
+    Performed {
+        line: reply_line(number, reply),
+        guidance,
     }
 }
