@@ -4,7 +4,8 @@
 They are written to the crate, or to the folder named.
 
 The calls, answers and stored states are the oracle's fixed list (tools/oracle/fixed), in another form. FIGURES are document
-01's unstarred case and figures from runs of the published Rust; the fixed list has to give them too.
+01's unstarred case and figures from runs of the published Rust; the fixed list has to give them too. `past_the_limit` is
+worked out here, from document 01's form of a fallback's limits.
 
 A row is 53 u32 words, low byte first. Numbers are their bits, every NaN 7fc00000; what a row does not use is 0.
 
@@ -161,9 +162,31 @@ def configurations():
     return "configurations", rows
 
 
+def number(bits):
+    return struct.unpack("<f", struct.pack("<I", bits))[0]
+
+
+def bits(value):
+    """The f32 nearest to a sum or a product of two f32, which Python's numbers hold exactly."""
+    return struct.unpack("<I", struct.pack("<f", value))[0]
+
+
+def past_the_limit():
+    """A fallback far above its altitude: trim and the least correction round to a pitch below -max_pitch_down_rad."""
+    trim, down = bits(0.125), defaults()[2]
+    correction = number(bits(-number(down) - number(trim)))
+    pitch = number(bits(number(trim) + correction))
+    share = number(bits(0.5 * number(bits(pitch - number(trim)))))
+    assert bits(pitch) == bits(-0.43633235) and number(down) == number(bits(0.43633232))
+    config = [trim if n == 6 else default for n, default in enumerate(defaults())]
+    call_words = [WAYPOINT, 1, bits(1.0)] + [0] * 13 + [bits(1000.0)]
+    answered = [0, LATERAL["loiter"], VERTICAL["fallback"], 1, 0, bits(pitch), bits(0.5 + share), 0]
+    return "past_the_limit", [row([NEW] + config, [0] * 8, FRESH), row(call_words, answered, FRESH)]
+
+
 def main():
     folder = pathlib.Path(sys.argv[1]) if len(sys.argv) > 1 else CRATE
-    groups = [configurations()]
+    groups = [configurations(), past_the_limit()]
     groups += [recording(path, False) for path in sorted(FIXED.glob("*.recording.hex"))]
     groups += [recording(path, True) for path in sorted(FIXED.glob("*.list.hex"))]
     (folder / "data").mkdir(parents=True, exist_ok=True)

@@ -98,6 +98,7 @@ fn try_group(name: &[u8], before: Count) -> Count {
 fn main() {
     let mut total = Count { rows: 0, right: 0 };
     total = try_group(b"configurations", total);
+    total = try_group(b"past_the_limit", total);
     total = try_group(b"airspeed_1e30_weight_0", total);
     total = try_group(b"airspeed_1e30", total);
     total = try_group(b"caps", total);
