@@ -139,7 +139,7 @@ typedef struct nuthkolla_answer {
  *                         The struct need not be initialised before, if its bytes can be read.
  *   any other number      refusal 255
  * What is proved: the answer and the whole guidance afterwards, for every input, equal the definitions that
- * docs/ARCHITECTURE.md names; of lists of these calls the owner's demand 3 is proved. */
+ * docs/HOST.md names; of lists of these calls the owner's demand 3 is proved. */
 nuthkolla_answer nuthkolla_run(nuthkolla_guidance *guidance, uint32_t what, const uint8_t *bytes, size_t length);
 
 /* ---- records */
