@@ -1,7 +1,8 @@
 /* Nuthkolla: guidance of small unmanned planes, for a host in C.
  *
  * The host holds a guidance, a plain struct of 176 bytes, and runs calls on it. Every function
- * answers every input: no pointer may be null or wild, and that is all that is asked of a caller.
+ * answers every input. All that is asked of a caller is C's own: a pointer points to as many bytes as
+ * its length says, is not null even where that is 0, and the bytes are no part of the guidance.
  * Nothing is allocated, no file or clock is read, no other memory is kept or changed. Two guidances
  * can be used from two threads at once; one guidance from one thread at a time.
  *
@@ -138,7 +139,7 @@ typedef struct nuthkolla_answer {
  *                         The struct need not be initialised before, if its bytes can be read.
  *   any other number      refusal 255
  * What is proved: the answer and the whole guidance afterwards, for every input, equal the definitions that
- * docs/ARCHITECTURE.md names; of lists of these calls the owner's demand 3 is proved. */
+ * docs/HOST.md names; of lists of these calls the owner's demand 3 is proved. */
 nuthkolla_answer nuthkolla_run(nuthkolla_guidance *guidance, uint32_t what, const uint8_t *bytes, size_t length);
 
 /* ---- records */

@@ -5,5 +5,4 @@ fn main() {
         println!("cargo:rustc-link-search=native={folder}");
     }
     println!("cargo:rustc-link-lib=static=nuthkolla");
-    println!("cargo:rustc-link-lib=m");
 }
