@@ -5,8 +5,11 @@ use crate::order::size;
 use crate::root::root;
 ghost use mathlib.Core.Path.{_≡_};
 ghost use lib.Ieee as Ieee;
-ghost use lib.Ieee.{binary32};
+ghost use lib.Ieee.{binary32, ofBits};
+ghost use mathlib.Core.Bool.{true};
+ghost use Prim.Native.Nat.{_≤_, _<_};
 ghost use Rattle.arithmetic.specs.Constants.{tau};
+ghost use Rattle.arithmetic.specs.Order as order;
 ghost use Rattle.arithmetic.specs.Trigonometry as spec;
 
 pub const PI: f32 = 3.1415927;
@@ -24,11 +27,32 @@ pub fn sine(a: f32) -> f32
     a * (1.0 - z / 6.0 * (1.0 - z / 20.0 * (1.0 - z / 42.0 * (1.0 - z / 72.0 * (1.0 - z / 110.0)))))
 }
 
-// The remainder by TAU. Below TAU it is the number itself, and the C library's fmodf is not called.
-fn turned(r: f32) -> f32
-    ensures { λ t. ⌜ t ≡ Ieee.rem binary32 r tau ⌝ }
+// The remainder by TAU of the number with these bits, which is at least 4. In units of 2^-21 both are whole numbers, and TAU is
+// 13176795. The `%` of f32 would be a call of the C library's fmodf.
+fn remainder(b: u32) -> f32
+    requires { ⌜ (0x4080_0000 ≤ b) × (b < 0x7f80_0000) ⌝ }
+    ensures { λ t. ⌜ t ≡ Ieee.rem binary32 (ofBits binary32 b) tau ⌝ }
 {
-    if size(r) < TAU { r } else { r % TAU }
+    let mut x: u32 = (b % 0x80_0000 + 0x80_0000) % 13176795;
+    let mut n: u32 = b / 0x80_0000 - 129;
+    while n > 0 {
+        x = x * 2 % 13176795;
+        n -= 1;
+    }
+    (x as f32) / 2097152.0
+}
+
+// The size of the remainder by TAU. Below TAU it is the number's own.
+fn turned(r: f32) -> f32
+    requires { ⌜ order.finite r ≡ true ⌝ }
+    ensures { λ t. ⌜ t ≡ order.size (Ieee.rem binary32 r tau) ⌝ }
+{
+    let u = size(r);
+    if u < TAU {
+        u
+    } else {
+        remainder(f32::to_bits(r) % 0x8000_0000)
+    }
 }
 
 fn folded(t: f32) -> f32
@@ -52,7 +76,7 @@ pub fn cosine(r: f32) -> f32
     ensures { λ c. ⌜ c ≡ spec.cosine r ⌝ }
 {
     if is_finite(r) {
-        cosine_of_folded(folded(size(turned(r))))
+        cosine_of_folded(folded(turned(r)))
     } else {
         0.0 / 0.0
     }

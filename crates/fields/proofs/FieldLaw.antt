@@ -111,7 +111,7 @@ module _ {s : List ℕ} {from map : ℕ} {v₀ v : List ℕ} {at m i : ℕ} (f :
         long = simp length-set (f .long);
         is = rw (e, rest-is s at, ← drop-drop 4 at s) (reads v m (drop at s) i h b ∙ f .is);
         place = simp length-set (omega (arith, f .place, ones-step m (length v) i h));
-        room = f .room
+        room = f .room;
       }
 
   pub read-keeps : i < length v → (m % 2 ≡ 1 → ⊥) → Reading s from map v₀ v at (m / 2) (i + 1)
@@ -122,7 +122,7 @@ module _ {s : List ℕ} {from map : ℕ} {v₀ v : List ℕ} {at m i : ℕ} (f :
         long = f .long;
         is = keeps v m (drop at s) i h b ∙ f .is;
         place = omega (arith, f .place, ones-step m (length v) i h);
-        room = f .room
+        room = f .room;
       }
 
   pub read-done : length v ≤ i → v ≡ valuesAt (numberFields v₀) map (drop from s)
@@ -142,7 +142,7 @@ put-more out at n a b l h =
     let first : take (at + n) (take at out ++ (a ++ drop n (drop at out))) ≡ take at out ++ a = rw whole (take-at (take at out ++ a) (drop n (drop at out)) (at + n) front) in
     let last : drop (at + n) (take at out ++ (a ++ drop n (drop at out))) ≡ drop (at + n) out = rw whole (drop-at (take at out ++ a) (drop n (drop at out)) (at + n) front ∙ drop-drop n at out) in
     let tail : drop (at + n + length b) (take at out ++ (a ++ drop n (drop at out))) ≡ drop (at + n + length b) out =
-        sym (drop-drop (length b) (at + n) _) ∙ ap (drop (length b)) last ∙ drop-drop (length b) (at + n) out in
+    sym (drop-drop (length b) (at + n) _) ∙ ap (drop (length b)) last ∙ drop-drop (length b) (at + n) out in
     let size : at + length (a ++ b) ≡ at + n + length b = simp length-append (omega arith) in
     rw (first, tail, size, append-assoc (take at out) a _, append-assoc a b _) refl
 
@@ -212,7 +212,7 @@ module _ {out₀ : List ℕ} {from map : ℕ} {v : List ℕ} {out : List ℕ} {a
         long = rw (e, rest-is out at) (simp (length-append, length-drop) (omega (arith, length-take-le at out (omega arith), l, f .long)));
         is = rw (e, rest-is out at) (put-more out at 4 (bytesOf 4 (getD v i 0)) (Body (m / 2) (drop (i + 1) v)) l r ∙ ap (putAt out at) (sym (body-writes h b)) ∙ f .is);
         place = omega (arith, f .place, ones-step m (length v) i h);
-        room = f .room
+        room = f .room;
       }
 
   pub write-skips : i < length v → (m % 2 ≡ 1 → ⊥) → Writing out₀ from map v out at (m / 2) (i + 1)
@@ -223,7 +223,7 @@ module _ {out₀ : List ℕ} {from map : ℕ} {v : List ℕ} {out : List ℕ} {a
         long = f .long;
         is = ap (putAt out at) (sym (body-skips h b)) ∙ f .is;
         place = omega (arith, f .place, ones-step m (length v) i h);
-        room = f .room
+        room = f .room;
       }
 
   body-done : length v ≤ i → Body m (drop i v) ≡ []
@@ -261,10 +261,21 @@ body-long (f ∷ fs) (v ∷ vs) m h = go (eqb (m % 2) 1) (body-long fs vs (m / 2
     go true ih = length-append (bytesOf (f .bytes) v) (bodyOf fs (m / 2) vs) ∙ omega (arith, bytes-long (f .bytes) v)
     go false ih = omega arith
 
-numbers-long : (ds : List ℕ) → length (numberFields ds) ≡ length ds
+pub numbers-long : (ds : List ℕ) → length (numberFields ds) ≡ length ds
 unfolding numberFields
 numbers-long [] = refl
 numbers-long (d ∷ ds) = ap suc (numbers-long ds)
+
+-- one value for each field
+pub values-long : (fs : List Field) (m : ℕ) (s : List ℕ) → length (valuesAt fs m s) ≡ length fs
+unfolding valuesAt
+values-long [] m s = refl
+values-long (f ∷ fs) m s = go (eqb (m % 2) 1) (λ (r : List ℕ). values-long fs (m / 2) r)
+  where
+    go : (b : Bool) → ((r : List ℕ) → length (valuesAt fs (m / 2) r) ≡ length fs)
+        → length (cond b (numberAt (f .bytes) s ∷ valuesAt fs (m / 2) (drop (f .bytes) s)) (f .missing ∷ valuesAt fs (m / 2) s)) ≡ suc (length fs)
+    go true ih = ap suc (ih (drop (f .bytes) s))
+    go false ih = ap suc (ih s)
 
 pub body-numbers : (vs : List ℕ) (m : ℕ) → length (bodyOf (numberFields vs) m vs) ≡ 4 * ones (length vs) m
 body-numbers vs m = body-long (numberFields vs) vs m (sym (numbers-long vs)) ∙ size-numbers vs m
@@ -313,8 +324,8 @@ module _ {keep v missing : List ℕ} {m i : ℕ} (f : Mapping keep v missing m i
         below = omega (arith, f .below);
         is = omega (arith, map-step (i - 1) (omega arith), e, f .is);
         small =
-          let q : length keep - (i - 1) ≡ suc (length keep - i) = omega (arith, f .below) in
-          rw (q, pow-suc 2 (length keep - i)) (omega (arith, f .small, e, bit-small (isWritten (getD keep (i - 1) 0) (getD v (i - 1) 0) (getD missing (i - 1) 0))))
+            let q : length keep - (i - 1) ≡ suc (length keep - i) = omega (arith, f .below) in
+            rw (q, pow-suc 2 (length keep - i)) (omega (arith, f .small, e, bit-small (isWritten (getD keep (i - 1) 0) (getD v (i - 1) 0) (getD missing (i - 1) 0))));
       }
 
 pub map-done : {keep v missing : List ℕ} {m i : ℕ} → Mapping keep v missing m i → length v ≡ length keep → length missing ≡ length keep → length keep ≤ 40 → i ≤ 0

@@ -3,3 +3,5 @@ pub mod NumberLaw
 pub mod MapLaw
 pub mod FieldLaw
 pub mod WriteLaw
+pub mod RecordLaw
+pub mod LawsProof

@@ -5,9 +5,9 @@ use Prim.Native.Nat.{ℕ, suc, _+_, _<_, _≤_}
 use native.Mathlib.Omega.{arith}
 use native.Mathlib.Numerals.{add-one}
 use lib.ListN.{length, set, drop, take, getD, length-set, length-map, drop-of-length-le}
-use lib.Ieee.{Float, binary32, toBits}
+use lib.Ieee.{Float, binary32, ofBits, toBits}
 use lib.Seq.{take-all, drop-cons, take-suc-set}
-use Rattle.fields.specs.Numbers.{bitsOf}
+use Rattle.fields.specs.Numbers.{floatsOf, bitsOf}
 
 module _ {A B : Type 0} (f : A → B) (d : A) where
   -- what holds in each turn: the first i numbers of the result are there
@@ -30,7 +30,7 @@ module _ {A B : Type 0} (f : A → B) (d : A) where
         record {
           below = omega arith;
           long = simp length-set (m .long);
-          is = rw (front, e) (append-assoc (take i ys) (f (getD xs i d) ∷ []) (map f (drop (i + 1) xs)) ∙ ap (λ (l : List B). take i ys ++ l) (sym (first h)) ∙ m .is)
+          is = rw (front, e) (append-assoc (take i ys) (f (getD xs i d) ∷ []) (map f (drop (i + 1) xs)) ∙ ap (λ (l : List B). take i ys ++ l) (sym (first h)) ∙ m .is);
         }
 
     pub done : length xs ≤ i → ys ≡ map f xs
@@ -39,6 +39,10 @@ module _ {A B : Type 0} (f : A → B) (d : A) where
         let none : drop i xs ≡ [] = drop-of-length-le xs h in
         sym (rw (all, none) (append-nil ys)) ∙ m .is
 
-pub bits-long : (xs : List Float) → length (bitsOf xs) ≡ length xs
+pub bits-length : (xs : List Float) → length (bitsOf xs) ≡ length xs
 unfolding bitsOf
-bits-long xs = length-map xs (toBits binary32)
+bits-length xs = length-map xs (toBits binary32)
+
+pub floats-length : (ns : List ℕ) → length (floatsOf ns) ≡ length ns
+unfolding floatsOf
+floats-length ns = length-map ns (ofBits binary32)

@@ -71,7 +71,7 @@ module _ {s : List ℕ} {n v i : ℕ} (r : Reading s n v i) where
       record {
         below = omega (arith, r .below);
         is = omega (arith, step, e, r .is);
-        small = rw (q, pow-suc 256 (n - i)) (omega (arith, r .small))
+        small = rw (q, pow-suc 256 (n - i)) (omega (arith, r .small));
       }
 
   pub read-done : i ≤ 0 → (v ≡ numberAt n s) × (v < 256 ^ n)
@@ -104,8 +104,8 @@ module _ {p₀ : List ℕ} {n number : ℕ} {p : List ℕ} {v i : ℕ} (w : Writ
         long = simp length-set (w .long);
         room = w .room;
         is =
-          rw (add-one i, take-suc-set p i (v % 256) here, drop-set-lt n p i (v % 256) h, ← add-one i)
-          (append-assoc (take i p) (v % 256 ∷ []) (bytesOf (n - (i + 1)) (v / 256) ++ drop n p) ∙ ap (λ (bs : List ℕ). take i p ++ (bs ++ drop n p)) (sym (first-byte h)) ∙ w .is)
+            rw (add-one i, take-suc-set p i (v % 256) here, drop-set-lt n p i (v % 256) h, ← add-one i)
+            (append-assoc (take i p) (v % 256 ∷ []) (bytesOf (n - (i + 1)) (v / 256) ++ drop n p) ∙ ap (λ (bs : List ℕ). take i p ++ (bs ++ drop n p)) (sym (first-byte h)) ∙ w .is);
       }
 
   no-bytes : n ≤ i → bytesOf (n - i) v ≡ []

@@ -1,7 +1,7 @@
 -- The fields of a record: bit n of its map says whether field n stands. Definitions only.
 use mathlib.Core.Bool.{Bool, cond, not, _||_}
 use mathlib.Core.List.{List, [], _∷_, _++_}
-use Prim.Native.Nat.{ℕ, zero, suc, _+_, _*_, _/_, _%_, _^_}
+use Prim.Native.Nat.{ℕ, zero, suc, _+_, _*_, _/_, _%_, _^_, _<_}
 use lib.Dec.{eqb, ltb}
 use lib.ListN.{length, drop}
 use Rattle.fields.specs.Bytes.{numberAt, bytesOf}
@@ -68,3 +68,10 @@ ones (suc n) m = m % 2 + ones n (m / 2)
 unfoldable pub numberFields : List ℕ → List Field
 numberFields [] = []
 numberFields (d ∷ ds) = record { bytes = 4; missing = d } ∷ numberFields ds
+
+-- one value for each field, and each is one that the field's bytes can spell
+unfoldable pub Held : List Field → List ℕ → Type 0
+Held [] [] = Unit {0}
+Held [] (v ∷ vs) = ⊥
+Held (f ∷ fs) [] = ⊥
+Held (f ∷ fs) (v ∷ vs) = (v < 256 ^ f .bytes) × Held fs vs

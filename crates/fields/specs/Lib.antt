@@ -3,3 +3,4 @@ pub mod Bytes
 pub mod Numbers
 pub mod Fields
 pub mod Writing
+pub mod Laws

@@ -2,7 +2,9 @@
 // that are numbers of four bytes.
 pub mod bytes;
 pub mod numbers;
-use crate::bytes::{read_number, write_number};
+
+use crate::bytes::read_number;
+use crate::bytes::write_number;
 ghost use mathlib.Core.Path.{_≡_};
 ghost use Prim.Native.Nat.{_≤_, _<_, _+_, _*_, _^_};
 ghost use lib.ListN.{length, drop};

@@ -1,5 +1,6 @@
 // Lists of f32s and their bits.
-use crate::bytes::{from_bits, to_bits};
+use crate::bytes::from_bits;
+use crate::bytes::to_bits;
 ghost use mathlib.Core.Path.{_≡_};
 ghost use lib.ListN.{length};
 ghost use Rattle.fields.specs.Numbers.{floatsOf, bitsOf};

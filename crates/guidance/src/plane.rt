@@ -21,6 +21,7 @@ ghost use Rattle.guidance.specs.Plane as spec;
 ghost use Rattle.guidance.specs.Contracts as contract;
 
 // A guidance: f32 and u32 only, since a host holds it. `requested` is the requested regime: 0 copter, not 0 plane.
+#[repr(C)]
 pub struct PlaneGuidance {
     pub config: PlaneGuidanceConfig,
     pub requested: u32,

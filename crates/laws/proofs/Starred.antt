@@ -1,5 +1,5 @@
 -- Every case of the table holds: the check computes it.
-use mathlib.Core.Path.{_≡_, refl}
+use mathlib.Core.Path.{_≡_}
 use mathlib.Core.Bool.{true}
 use lib.Ieee.{isNan, neg, lt, le, eq, ofBits, toBits, add, sub, mul, div, rem}
 use Rattle.arithmetic.specs.Order.{least, greatest, clamp, finite, size, negative}
@@ -13,4 +13,4 @@ use Rattle.laws.specs.Starred.{table, allHold}
 
 pub starred : allHold table ≡ true
 unfolding isNan neg lt le eq ofBits toBits add sub mul div rem least greatest clamp finite size negative rootOf sine folded cosineOfFolded cosine series part arctangentOfSize arctangent arctangent2 limitOrZero clampSymmetric saturateSymmetric saturateUnit lagged firstFailing tecsDefault default tecsValidate validate piPinned piFinite piStep updateUnderspeed turnRate clampAirspeed reset hold allHold
-starred = refl
+starred = cc

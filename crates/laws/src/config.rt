@@ -52,86 +52,96 @@ pub struct PlaneGuidanceConfig {
 // One degree in radians.
 const DEG: f32 = PI / 180.0;
 
-fn check_limit(x: f32) -> bool
-    ensures { λ r. ⌜ r ≡ spec.checkLimit x ⌝ }
+// Each check gives `rest` where the value passes, and else the field's number.
+fn check_limit(field: u32, value: f32, rest: u32) -> u32
+    ensures { λ r. ⌜ r ≡ cond (spec.checkLimit value) rest field ⌝ }
 {
-    (x >= 0.0) & is_finite(x)
+    if (value >= 0.0) & is_finite(value) {
+        rest
+    } else {
+        field
+    }
 }
 
-fn check_positive(x: f32) -> bool
-    ensures { λ r. ⌜ r ≡ spec.checkPositive x ⌝ }
+fn check_positive(field: u32, value: f32, rest: u32) -> u32
+    ensures { λ r. ⌜ r ≡ cond (spec.checkPositive value) rest field ⌝ }
 {
-    (x > 0.0) & is_finite(x)
+    if (value > 0.0) & is_finite(value) {
+        rest
+    } else {
+        field
+    }
 }
 
-fn within(low: f32, x: f32, high: f32) -> bool
-    ensures { λ r. ⌜ r ≡ spec.within low x high ⌝ }
+fn check_within(field: u32, low: f32, value: f32, high: f32, rest: u32) -> u32
+    ensures { λ r. ⌜ r ≡ cond (spec.within low value high) rest field ⌝ }
 {
-    (x >= low) & (x <= high)
+    if (value >= low) & (value <= high) {
+        rest
+    } else {
+        field
+    }
 }
 
-fn check_share(x: f32) -> bool
-    ensures { λ r. ⌜ r ≡ spec.checkShare x ⌝ }
+fn check_share(field: u32, value: f32, rest: u32) -> u32
+    ensures { λ r. ⌜ r ≡ cond (spec.checkShare value) rest field ⌝ }
 {
-    (x > 0.0) & (x <= 1.0)
-}
-
-// `rest` where the field's test holds, and else the field's number.
-fn first_of(ok: bool, number: u32, rest: u32) -> u32
-    ensures { λ r. ⌜ r ≡ cond ok rest number ⌝ }
-{
-    if ok { rest } else { number }
+    if (value > 0.0) & (value <= 1.0) {
+        rest
+    } else {
+        field
+    }
 }
 
 // Fields 1 to 14; `rest` where all of them pass.
 fn first_fields(c: PlaneGuidanceConfig, rest: u32) -> u32
     ensures { λ r. ⌜ r ≡ spec.firstFailing 1 (spec.firstTests c) rest ⌝ }
 {
-    let n14 = first_of(check_limit(c.altitude_max_integral), 14, rest);
-    let n13 = first_of(check_limit(c.altitude_i), 13, n14);
-    let n12 = first_of(check_limit(c.altitude_p), 12, n13);
-    let n11 = first_of(check_positive(c.loiter_radius_m), 11, n12);
-    let n10 = first_of(check_positive(c.l1_damping), 10, n11);
-    let n9 = first_of(check_positive(c.l1_period_s), 9, n10);
-    let n8 = first_of(within(0.0, c.cruise_thrust, 1.0), 8, n9);
-    let n7 = first_of(within(-FRAC_PI_2, c.trim_pitch_rad, FRAC_PI_2), 7, n8);
-    let n6 = first_of(check_limit(c.max_rate_radps.z), 6, n7);
-    let n5 = first_of(check_limit(c.max_rate_radps.y), 5, n6);
-    let n4 = first_of(check_limit(c.max_rate_radps.x), 4, n5);
-    let n3 = first_of(within(0.0, c.max_pitch_down_rad, FRAC_PI_2), 3, n4);
-    let n2 = first_of(within(0.0, c.max_pitch_up_rad, FRAC_PI_2), 2, n3);
-    first_of(within(0.0, c.max_bank_rad, FRAC_PI_2), 1, n2)
+    let n14 = check_limit(14, c.altitude_max_integral, rest);
+    let n13 = check_limit(13, c.altitude_i, n14);
+    let n12 = check_limit(12, c.altitude_p, n13);
+    let n11 = check_positive(11, c.loiter_radius_m, n12);
+    let n10 = check_positive(10, c.l1_damping, n11);
+    let n9 = check_positive(9, c.l1_period_s, n10);
+    let n8 = check_within(8, 0.0, c.cruise_thrust, 1.0, n9);
+    let n7 = check_within(7, -FRAC_PI_2, c.trim_pitch_rad, FRAC_PI_2, n8);
+    let n6 = check_limit(6, c.max_rate_radps.z, n7);
+    let n5 = check_limit(5, c.max_rate_radps.y, n6);
+    let n4 = check_limit(4, c.max_rate_radps.x, n5);
+    let n3 = check_within(3, 0.0, c.max_pitch_down_rad, FRAC_PI_2, n4);
+    let n2 = check_within(2, 0.0, c.max_pitch_up_rad, FRAC_PI_2, n3);
+    check_within(1, 0.0, c.max_bank_rad, FRAC_PI_2, n2)
 }
 
 // Fields 15 to 30.
 fn tecs_fields(t: TecsConfig, rest: u32) -> u32
     ensures { λ r. ⌜ r ≡ spec.firstFailing 15 (spec.tecsTests t) rest ⌝ }
 {
-    let n30 = first_of(check_positive(t.kinetic_rate_high_pass_s), 30, rest);
-    let n29 = first_of(check_positive(t.airspeed_rate_time_constant_s), 29, n30);
-    let n28 = first_of(check_positive(t.height_demand_time_constant_s), 28, n29);
-    let n27 = first_of(check_share(t.underspeed_share), 27, n28);
-    let n26 = first_of(check_positive(t.max_airspeed_mps), 26, n27);
-    let n25 = first_of(check_positive(t.min_airspeed_mps), 25, n26);
-    let n24 = first_of(check_limit(t.roll_compensation), 24, n25);
-    let n23 = first_of(within(0.0, t.speed_weight, 2.0), 23, n24);
-    let n22 = first_of(check_limit(t.pitch_integrator_gain), 22, n23);
-    let n21 = first_of(check_limit(t.pitch_damping), 21, n22);
-    let n20 = first_of(check_limit(t.integrator_gain), 20, n21);
-    let n19 = first_of(check_limit(t.thrust_damping), 19, n20);
-    let n18 = first_of(check_limit(t.max_sink_mps), 18, n19);
-    let n17 = first_of(check_positive(t.min_sink_mps), 17, n18);
-    let n16 = first_of(check_positive(t.max_climb_mps), 16, n17);
-    first_of(check_positive(t.time_constant_s), 15, n16)
+    let n30 = check_positive(30, t.kinetic_rate_high_pass_s, rest);
+    let n29 = check_positive(29, t.airspeed_rate_time_constant_s, n30);
+    let n28 = check_positive(28, t.height_demand_time_constant_s, n29);
+    let n27 = check_share(27, t.underspeed_share, n28);
+    let n26 = check_positive(26, t.max_airspeed_mps, n27);
+    let n25 = check_positive(25, t.min_airspeed_mps, n26);
+    let n24 = check_limit(24, t.roll_compensation, n25);
+    let n23 = check_within(23, 0.0, t.speed_weight, 2.0, n24);
+    let n22 = check_limit(22, t.pitch_integrator_gain, n23);
+    let n21 = check_limit(21, t.pitch_damping, n22);
+    let n20 = check_limit(20, t.integrator_gain, n21);
+    let n19 = check_limit(19, t.thrust_damping, n20);
+    let n18 = check_limit(18, t.max_sink_mps, n19);
+    let n17 = check_positive(17, t.min_sink_mps, n18);
+    let n16 = check_positive(16, t.max_climb_mps, n17);
+    check_positive(15, t.time_constant_s, n16)
 }
 
 // Fields 31 to 33.
 fn last_fields(c: PlaneGuidanceConfig, rest: u32) -> u32
     ensures { λ r. ⌜ r ≡ spec.firstFailing 31 (spec.lastTests c) rest ⌝ }
 {
-    let n33 = first_of(check_limit(c.climb_thrust_per_rad), 33, rest);
-    let n32 = first_of(within(0.0, c.max_thrust, 1.0), 32, n33);
-    first_of(within(0.0, c.min_thrust, 1.0), 31, n32)
+    let n33 = check_limit(33, c.climb_thrust_per_rad, rest);
+    let n32 = check_within(32, 0.0, c.max_thrust, 1.0, n33);
+    check_within(31, 0.0, c.min_thrust, 1.0, n32)
 }
 
 // 0, or the number of the first failing field, 15 to 30.

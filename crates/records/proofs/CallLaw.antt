@@ -16,7 +16,7 @@ use Rattle.fields.specs.Bytes.{numberAt, bytesOf, putAt}
 use Rattle.fields.specs.Fields.{Field, ones, named, stands, sizeOf, valuesAt, isWritten, bitOf, mapOf, bodyOf, numberFields}
 use Rattle.fields.specs.Numbers.{floatsOf, bitsOf}
 use Rattle.fields.proofs.NumberLaw.{bytes-long}
-use Rattle.fields.proofs.MapLaw.{bits-long}
+use Rattle.fields.proofs.MapLaw.{bits-length}
 use Rattle.fields.proofs.FieldLaw.{rest-is, size-numbers, put-none, put-next, body-long, body-missing}
 use Rattle.records.specs.declared.call.ByteRead.{ByteRead}
 use Rattle.records.specs.declared.call.Call.{Call}
@@ -215,7 +215,7 @@ module _ (p₀ p₁ p₂ p₃ p₄ : List ℕ) (m k g second third : ℕ) (v : L
       let q₃ : p₃ ≡ putAt p₀ 0 ((bytesOf 4 m ++ byteOf m k) ++ byteOf (m / 2) g) = put-next p₀ 0 second (bytesOf 4 m ++ byteOf m k) (byteOf (m / 2) g) q₂ (omega (arith, l₂, es)) (omega (arith, es)) e₃ in
       let q₄ : p₄ ≡ putAt p₀ 0 (((bytesOf 4 m ++ byteOf m k) ++ byteOf (m / 2) g) ++ bodyOf (numberFields v) (m / 4) v) = put-next p₀ 0 third ((bytesOf 4 m ++ byteOf m k) ++ byteOf (m / 2) g) (bodyOf (numberFields v) (m / 4) v) q₃ (omega (arith, l₃, es, et)) (omega (arith, es, et)) e₄ in
       let order : ((bytesOf 4 m ++ byteOf m k) ++ byteOf (m / 2) g) ++ bodyOf (numberFields v) (m / 4) v ≡ bytesOf 4 m ++ bodyOf callFields m (k ∷ g ∷ v) =
-          append-assoc (bytesOf 4 m ++ byteOf m k) (byteOf (m / 2) g) _ ∙ append-assoc (bytesOf 4 m) (byteOf m k) _ ∙ ap (λ (x : List ℕ). bytesOf 4 m ++ x) (sym (body-is m k g v l)) in
+      append-assoc (bytesOf 4 m ++ byteOf m k) (byteOf (m / 2) g) _ ∙ append-assoc (bytesOf 4 m) (byteOf m k) _ ∙ ap (λ (x : List ℕ). bytesOf 4 m ++ x) (sym (body-is m k g v l)) in
       q₄ ∙ ap (putAt p₀ 0) order
 
 -- what is written is the call's record
@@ -226,6 +226,6 @@ module _ (c : Call) (p : Parts) (v : List ℕ) (m : ℕ) (ep : p ≡ partsOf c) 
 
   pub record-long : (n : ℕ) → n ≡ sizeOf callFields m → 4 + n ≡ length (callRecord c)
   record-long n en =
-      let long : length (p .kind ∷ p .regime ∷ v) ≡ length callFields = rw (ev, bits-long (p .numbers), ep, parts-long c, fields-long) in
+      let long : length (p .kind ∷ p .regime ∷ v) ≡ length callFields = rw (ev, bits-length (p .numbers), ep, parts-long c, fields-long) in
       let body : length (bodyOf callFields m (p .kind ∷ p .regime ∷ v)) ≡ sizeOf callFields m = body-long callFields (p .kind ∷ p .regime ∷ v) m long in
       sym (ap length (sym record-is) ∙ length-append (bytesOf 4 m) (bodyOf callFields m (p .kind ∷ p .regime ∷ v)) ∙ omega (arith, bytes-long 4 m, body))

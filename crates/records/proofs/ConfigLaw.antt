@@ -25,14 +25,14 @@ pub fields-are : configFields ≡ numberFields (bitsOf (numbersOf default))
 unfolding configFields
 fields-are = refl
 
-fields-long : length configFields ≡ 33
+pub fields-long : length configFields ≡ 33
 unfolding configFields numberFields bitsOf numbersOf
 fields-long = refl
 
 pub size-is : (m : ℕ) → sizeOf configFields m ≡ 4 * ones 33 m
 size-is m = rw fields-are (size-numbers (bitsOf (numbersOf default)) m ∙ rw (bits-long default))
 
-named-below : (m : ℕ) → m < 8589934592 → named configFields m ≡ true
+pub named-below : (m : ℕ) → m < 8589934592 → named configFields m ≡ true
 named-below m h = rw fields-long (lt-ltb m 8589934592 h)
 
 named-above : (m : ℕ) → 8589934592 ≤ m → named configFields m ≡ false

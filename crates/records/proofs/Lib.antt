@@ -1,3 +1,5 @@
 -- Laws of the two records.
 pub mod ConfigLaw
+pub mod ConfigBack
 pub mod CallLaw
+pub mod CallBack

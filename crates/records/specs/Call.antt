@@ -84,20 +84,20 @@ absoluteRateAt v = record { «roll_radps» = at v 3; «pitch_radps» = at v 4; �
 -- 7, 8 waypoint; 9, 10 leg; 11 altitude; 12 cruise speed
 unfoldable pub waypointAt : ℕ → List Float → WaypointCommand
 waypointAt m v = record {
-    «position_m» = record { x = at v 7; y = at v 8 };
-    «velocity_mps» = legOf (m / 2 ^ 9) (at v 9) (at v 10);
-    «altitude_m» = at v 11;
-    «cruise_speed_mps» = at v 12
-  }
+  «position_m» = record { x = at v 7; y = at v 8 };
+  «velocity_mps» = legOf (m / 2 ^ 9) (at v 9) (at v 10);
+  «altitude_m» = at v 11;
+  «cruise_speed_mps» = at v 12;
+}
 
 -- 13 to 15 position; 16 to 18 velocity; 19 roll; 20 airspeed
 unfoldable pub stateAt : ℕ → List Float → VehicleState
 stateAt m v = record {
-    «position_m» = record { x = at v 13; y = at v 14; z = at v 15 };
-    «velocity_mps» = record { x = at v 16; y = at v 17; z = at v 18 };
-    «roll_rad» = at v 19;
-    «airspeed_mps» = optionOf (m / 2 ^ 20) (at v 20)
-  }
+  «position_m» = record { x = at v 13; y = at v 14; z = at v 15 };
+  «velocity_mps» = record { x = at v 16; y = at v 17; z = at v 18 };
+  «roll_rad» = at v 19;
+  «airspeed_mps» = optionOf (m / 2 ^ 20) (at v 20);
+}
 
 -- the call of a kind: a field that its kind doesn't use is no part of it; 2 time step; 21 cap
 unfoldable pub callOf : ℕ → FlightRegime → ℕ → List Float → Call
@@ -154,18 +154,18 @@ hasLeg (leg.Some l) = 1
 -- its value. A number that its kind doesn't use is +0, what missing would give, and so is never written.
 unfoldable pub commandParts : ℕ → ℕ → Float → Float → Float → Float → Float → Parts
 commandParts kind regime dt a b c d = record {
-    kind = kind;
-    regime = regime;
-    numbers = dt ∷ a ∷ b ∷ c ∷ d ∷ replicate 15 zero;
-    keeps = replicate 20 0
-  }
+  kind = kind;
+  regime = regime;
+  numbers = dt ∷ a ∷ b ∷ c ∷ d ∷ replicate 15 zero;
+  keeps = replicate 20 0;
+}
 
 -- a leg, an airspeed and a cap that are present are written whatever their values
 unfoldable pub waypointParts : ℕ → Float → WaypointCommand → VehicleState → OptionF32 → Parts
 waypointParts regime dt c s cap = record {
-    kind = 3;
-    regime = regime;
-    numbers =
+  kind = 3;
+  regime = regime;
+  numbers =
       dt ∷ zero ∷ zero ∷ zero ∷ zero ∷
       c .«position_m» .x ∷ c .«position_m» .y ∷
       legNorth (c .«velocity_mps») ∷ legEast (c .«velocity_mps») ∷
@@ -173,10 +173,10 @@ waypointParts regime dt c s cap = record {
       s .«position_m» .x ∷ s .«position_m» .y ∷ s .«position_m» .z ∷
       s .«velocity_mps» .x ∷ s .«velocity_mps» .y ∷ s .«velocity_mps» .z ∷
       s .«roll_rad» ∷ numberOr0 (s .«airspeed_mps») ∷ numberOr0 cap ∷ [];
-    keeps =
+  keeps =
       0 ∷ 0 ∷ 0 ∷ 0 ∷ 0 ∷ 0 ∷ 0 ∷ hasLeg (c .«velocity_mps») ∷ hasLeg (c .«velocity_mps») ∷
-      0 ∷ 0 ∷ 0 ∷ 0 ∷ 0 ∷ 0 ∷ 0 ∷ 0 ∷ 0 ∷ hasNumber (s .«airspeed_mps») ∷ hasNumber cap ∷ []
-  }
+      0 ∷ 0 ∷ 0 ∷ 0 ∷ 0 ∷ 0 ∷ 0 ∷ 0 ∷ 0 ∷ hasNumber (s .«airspeed_mps») ∷ hasNumber cap ∷ [];
+}
 
 -- a prime has no regime: what missing would give
 unfoldable pub partsOf : Call → Parts

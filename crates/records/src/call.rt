@@ -1,11 +1,25 @@
 // The call record: a 4-byte map, then fields by bit.
 use arithmetic::vector::Vec2;
-use fields::bytes::{read_number, write_number};
-use fields::numbers::{bits, floats};
-use fields::{Cursor, Written, count, map_of, read_values, write_values};
-use laws::types::{
-    AbsoluteAttitudeCommand, AbsoluteRateCommand, AttitudeCommand, FlightRegime, OptionF32, OptionVec2, RateCommand, Vec3, VehicleState, WaypointCommand,
-};
+use fields::Cursor;
+use fields::Written;
+use fields::bytes::read_number;
+use fields::bytes::write_number;
+use fields::count;
+use fields::map_of;
+use fields::numbers::bits;
+use fields::numbers::floats;
+use fields::read_values;
+use fields::write_values;
+use laws::types::AbsoluteAttitudeCommand;
+use laws::types::AbsoluteRateCommand;
+use laws::types::AttitudeCommand;
+use laws::types::FlightRegime;
+use laws::types::OptionF32;
+use laws::types::OptionVec2;
+use laws::types::RateCommand;
+use laws::types::Vec3;
+use laws::types::VehicleState;
+use laws::types::WaypointCommand;
 ghost use mathlib.Core.Path.{_≡_};
 ghost use mathlib.Core.List.{_∷_, _++_};
 ghost use Prim.Native.Nat.{_≤_, _<_, _+_, _*_, _/_, _%_};
@@ -110,20 +124,32 @@ fn read_byte(s: &[u8], from: Cursor, stands: u64, missing: u64) -> ByteRead
 fn regime_of(byte: u64) -> FlightRegime
     ensures { λ r. ⌜ r ≡ spec.regimeOf byte ⌝ }
 {
-    if byte == 0 { FlightRegime::Copter } else { FlightRegime::Plane }
+    if byte == 0 {
+        FlightRegime::Copter
+    } else {
+        FlightRegime::Plane
+    }
 }
 
 // A number that is none where its bit, the lowest of map, does not stand.
 fn option_of(map: u64, x: f32) -> OptionF32
     ensures { λ r. ⌜ r ≡ spec.optionOf map x ⌝ }
 {
-    if map % 2 == 1 { OptionF32::Some(x) } else { OptionF32::None }
+    if map % 2 == 1 {
+        OptionF32::Some(x)
+    } else {
+        OptionF32::None
+    }
 }
 
 fn leg_of(map: u64, x: f32, y: f32) -> OptionVec2
     ensures { λ r. ⌜ r ≡ spec.legOf map x y ⌝ }
 {
-    if map % 2 == 1 { OptionVec2::Some(Vec2 { x, y }) } else { OptionVec2::None }
+    if map % 2 == 1 {
+        OptionVec2::Some(Vec2 { x, y })
+    } else {
+        OptionVec2::None
+    }
 }
 
 // Bits 7 to 12.
@@ -346,7 +372,26 @@ fn command_parts(kind: u8, regime: u8, dt: f32, a: f32, b: f32, c: f32, d: f32) 
         kind,
         regime,
         numbers: [
-            dt, a, b, c, d, 0.0, 0.0, 0.0, 0.0, 0.0, 0.0, 0.0, 0.0, 0.0, 0.0, 0.0, 0.0, 0.0, 0.0, 0.0,
+            dt,
+            a,
+            b,
+            c,
+            d,
+            0.0,
+            0.0,
+            0.0,
+            0.0,
+            0.0,
+            0.0,
+            0.0,
+            0.0,
+            0.0,
+            0.0,
+            0.0,
+            0.0,
+            0.0,
+            0.0,
+            0.0,
         ],
         keeps: [0u8; 20],
     }
@@ -412,7 +457,15 @@ fn parts_of(call: Call) -> Parts
             command,
         } => {
             let r = regime_byte(regime);
-            command_parts(2, r, dt, command.roll_rate, command.pitch_rate, command.yaw_rate, command.throttle)
+            command_parts(
+                2,
+                r,
+                dt,
+                command.roll_rate,
+                command.pitch_rate,
+                command.yaw_rate,
+                command.throttle,
+            )
         }
         Call::Waypoint {
             regime,
@@ -430,7 +483,15 @@ fn parts_of(call: Call) -> Parts
             command,
         } => {
             let r = regime_byte(regime);
-            command_parts(4, r, dt, command.roll_rad, command.pitch_rad, command.thrust, 0.0)
+            command_parts(
+                4,
+                r,
+                dt,
+                command.roll_rad,
+                command.pitch_rad,
+                command.thrust,
+                0.0,
+            )
         }
         Call::Land { regime, dt } => {
             let r = regime_byte(regime);
@@ -442,7 +503,15 @@ fn parts_of(call: Call) -> Parts
             command,
         } => {
             let r = regime_byte(regime);
-            command_parts(6, r, dt, command.roll_radps, command.pitch_radps, command.yaw_radps, command.thrust)
+            command_parts(
+                6,
+                r,
+                dt,
+                command.roll_radps,
+                command.pitch_radps,
+                command.yaw_radps,
+                command.thrust,
+            )
         }
     }
 }

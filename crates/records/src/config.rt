@@ -1,8 +1,17 @@
 // The configuration record: a 5-byte map, bit n-1 for field n, then fields.
-use fields::bytes::{read_number, write_number};
-use fields::{Cursor, Written, count, map_of, read_values, write_values};
-use fields::numbers::{bits, floats};
-use laws::config::{PlaneGuidanceConfig, TecsConfig};
+use fields::Cursor;
+use fields::Written;
+use fields::bytes::read_number;
+use fields::bytes::write_number;
+use fields::count;
+use fields::map_of;
+use fields::numbers::bits;
+use fields::numbers::floats;
+use fields::read_values;
+use fields::write_values;
+use laws::config::PlaneGuidanceConfig;
+use laws::config::TecsConfig;
+use laws::config::default;
 use laws::types::Vec3;
 ghost use mathlib.Core.Path.{_≡_};
 ghost use mathlib.Core.List.{_++_};
@@ -124,7 +133,7 @@ fn bits_of(c: PlaneGuidanceConfig) -> [u32; 33]
 fn default_bits() -> [u32; 33]
     ensures { λ r. ⌜ r ≡ bitsOf (numbersOf default) ⌝ }
 {
-    bits_of(PlaneGuidanceConfig::default())
+    bits_of(default())
 }
 
 // The configuration of the bits of 33 numbers.

@@ -1,9 +1,9 @@
 // Replays a recording into a lent buffer, as the desk program prints it.
 pub mod turn;
 
+use crate::turn::perform;
 use crate::turn::refused_line;
 use crate::turn::stopped_line;
-use crate::turn::perform;
 use fields::Written;
 use guidance::plane::Created;
 use guidance::plane::PlaneGuidance;

@@ -1,10 +1,9 @@
 -- `RootLaw` of `rootOf`: of all the values of binary32, its result is the one nearest to the root. Assumes nothing.
 use mathlib.Core.Path.{_≡_, refl, sym, ap, _∙_, subst}
 use Prim.Native.Nat.{ℕ, zero, suc, _+_, _-_, _*_, _/_, _%_, _^_, _≤_, _<_}
-use native.Mathlib.Nat.{le-trans, le-of-eq, le-of-suc-le-suc, lt-of-lt-of-le, lt-of-le-of-lt, lt-of-not-le, not-le-of-lt, lt-irrefl, le-suc, le-antisymm, add-comm, eq-or-lt-of-le, zero-lt-suc, add-zero, mul-one, mul-assoc, mul-comm, mul-left-comm, mul-right-comm, suc-mul, mul-pos, mul-le-mul, mul-le-mul-right, mul-lt-mul-of-pos-right, lt-of-mul-lt-mul-right, div-one, mul-div-cancel, div-lt-iff-lt-mul, zero-mul}
-use native.Mathlib.Numerals.{add-one}
+use native.Mathlib.Nat.{le-trans, le-of-eq, le-of-suc-le-suc, lt-of-lt-of-le, lt-of-le-of-lt, lt-of-not-le, not-le-of-lt, lt-irrefl, le-suc, le-antisymm, add-comm, eq-or-lt-of-le, zero-lt-suc, mul-one, mul-assoc, mul-comm, mul-right-comm, suc-mul, mul-pos, mul-le-mul, mul-le-mul-right, mul-lt-mul-of-pos-right, lt-of-mul-lt-mul-right, mul-div-cancel, zero-mul}
 use native.Mathlib.Omega.{arith}
-use mathlib.Core.Bool.{Bool, true, false, not, _&&_, cond, true≢false}
+use mathlib.Core.Bool.{Bool, true, false, not, _&&_, true≢false}
 use mathlib.Core.Logic.{_⊎_, inl, inr}
 use lib.IntN.{ℤ, pos, negsuc}
 use lib.Dec.{T, leb, ltb, eqb, leb→le, nleb→lt, ltb→lt, lt→ltb}

@@ -1,17 +1,16 @@
 -- The steps of `near_root`, `of_parts` and `root` on plain numbers. Assumes nothing.
 use mathlib.Core.Path.{_≡_, refl, sym, ap, _∙_, subst}
 use Prim.Native.Nat.{ℕ, zero, suc, _+_, _-_, _*_, _/_, _%_, _^_, _≤_, _<_}
-use native.Mathlib.Nat.{le-trans, le-of-eq, le-of-suc-le-suc, lt-of-lt-of-le, lt-of-not-le, not-le-of-lt, lt-irrefl, mul-le-mul, mul-le-mul-right, mul-lt-mul-of-pos-right, mul-assoc, mul-comm, mul-right-comm, mul-pos, zero-mul, mod-eq-of-lt, mul-div-cancel}
-use native.Mathlib.Numerals.{add-one}
+use native.Mathlib.Nat.{le-trans, le-of-eq, le-of-suc-le-suc, lt-of-lt-of-le, lt-of-not-le, not-le-of-lt, lt-irrefl, mul-le-mul, mul-le-mul-right, mul-lt-mul-of-pos-right, mul-assoc, mul-right-comm, mul-pos, zero-mul, mod-eq-of-lt, mul-div-cancel}
 use native.Mathlib.Omega.{arith}
 use mathlib.Core.Bool.{Bool, true, false, not, cond, true≢false, false≢true}
 use lib.Dec.{T, leb, ltb, eqb, ltb→lt, leb→le, nleb→lt, not-T, eqb·suc-zero}
 use mathlib.Core.Logic.{_⊎_, inl, inr}
 use lib.Pow.{pow-add, pow-pos, pow-mono}
 use lib.Count.{leadingZeros, leading-top}
-use lib.Ieee.{Float, nan, inf, fin, binary32, up, down, fits, isNan, ofFields, ofBits, toBits, nanBits, odd, div, ne, round}
+use lib.Ieee.{Float, nan, inf, fin, binary32, up, down, fits, isNan, ofFields, ofBits, nanBits, odd, div, ne}
 use lib.Ieee.Fits.{round-fits, down-pos}
-use lib.Ieee.Bits.{ofBits-fits, ofBits-toBits, toBits-lt, nanBits-above}
+use lib.Ieee.Bits.{ofBits-fits, nanBits-above}
 use lib.Ieee.Compare.{differs-from-itself, nan-differs}
 use lib.Ieee.Exact.{HasValue, odd-sign}
 use Rattle.arithmetic.specs.Root.{NearestWhole, nearestRoot, rootOf}

@@ -1,4 +1,3 @@
-
 use Rattle.desk.proofs.Law.{next-within, part-long}
 use borrow.Author.Needs.{needs}
 use Rattle.desk.proofs.main.Statement.{statement}

@@ -3,7 +3,7 @@ use borrow.Author.Needs.{needs}
 use mathlib.Core.Path.{_≡_, ap, _∙_}
 use native.Mathlib.Numerals.{add-one}
 use Rattle.arithmetic.proofs.root.Squares.{square-suc}
-use Prim.Native.Nat.{ℕ, zero, suc, _≤_, _<_, _+_, _*_, _-_}
+use Prim.Native.Nat.{ℕ, _≤_, _<_, _+_, _*_, _-_}
 use native.Mathlib.Nat.{mul-le-mul, not-le-of-lt, lt-of-not-le}
 use native.Mathlib.Omega.{arith}
 use Rattle.arithmetic.proofs.root.near_root.Statement.{statement}

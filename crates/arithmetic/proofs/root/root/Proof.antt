@@ -1,6 +1,6 @@
 -- `root::root` meets its contract. Assumes nothing.
 use mathlib.Core.Path.{_≡_, sym, ap, _∙_, subst}
-use Prim.Native.Nat.{ℕ, _-_, _*_, _%_, _^_, _<_}
+use Prim.Native.Nat.{ℕ, _-_, _*_, _^_}
 use native.Mathlib.Omega.{arith}
 use lib.Dec.{T}
 use lib.Count.{leadingZeros}

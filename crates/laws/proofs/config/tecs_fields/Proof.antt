@@ -20,23 +20,7 @@ returns c =
     let c13 = c12 .before in
     let c14 = c13 .before in
     let c15 = c14 .before in
-    let c16 = c15 .before in
-    let c17 = c16 .before in
-    let c18 = c17 .before in
-    let c19 = c18 .before in
-    let c20 = c19 .before in
-    let c21 = c20 .before in
-    let c22 = c21 .before in
-    let c23 = c22 .before in
-    let c24 = c23 .before in
-    let c25 = c24 .before in
-    let c26 = c25 .before in
-    let c27 = c26 .before in
-    let c28 = c27 .before in
-    let c29 = c28 .before in
-    let c30 = c29 .before in
-    let c31 = c30 .before in
-    rw (← c31 .check-positive .ensures, ← c30 .first-of .ensures, ← c29 .check-positive2 .ensures, ← c28 .first-of2 .ensures, ← c27 .check-positive3 .ensures, ← c26 .first-of3 .ensures, ← c25 .check-share .ensures, ← c24 .first-of4 .ensures, ← c23 .check-positive4 .ensures, ← c22 .first-of5 .ensures, ← c21 .check-positive5 .ensures, ← c20 .first-of6 .ensures, ← c19 .check-limit .ensures, ← c18 .first-of7 .ensures, ← c17 .within .ensures, ← c16 .first-of8 .ensures, ← c15 .check-limit2 .ensures, ← c14 .first-of9 .ensures, ← c13 .check-limit3 .ensures, ← c12 .first-of10 .ensures, ← c11 .check-limit4 .ensures, ← c10 .first-of11 .ensures, ← c9 .check-limit5 .ensures, ← c8 .first-of12 .ensures, ← c7 .check-limit6 .ensures, ← c6 .first-of13 .ensures, ← c5 .check-positive6 .ensures, ← c4 .first-of14 .ensures, ← c3 .check-positive7 .ensures, ← c2 .first-of15 .ensures, ← c1 .check-positive8 .ensures, ← c .first-of16 .ensures)
+    rw (← c15 .check-positive .ensures, ← c14 .check-positive2 .ensures, ← c13 .check-positive3 .ensures, ← c12 .check-share .ensures, ← c11 .check-positive4 .ensures, ← c10 .check-positive5 .ensures, ← c9 .check-limit .ensures, ← c8 .check-within .ensures, ← c7 .check-limit2 .ensures, ← c6 .check-limit3 .ensures, ← c5 .check-limit4 .ensures, ← c4 .check-limit5 .ensures, ← c3 .check-limit6 .ensures, ← c2 .check-positive6 .ensures, ← c1 .check-positive7 .ensures, ← c .check-positive8 .ensures)
 
 pub tecs-fields-spec : {M : Type 1} → statement M
-tecs-fields-spec = tie.close (tie.spec (λ c κs. tt) (λ c κs. tt) (λ c κs. tt) (λ c κs. tt) (λ c κs. tt) (λ c κs. tt) (λ c κs. tt) (λ c κs. tt) (λ c κs. tt) (λ c κs. tt) (λ c κs. tt) (λ c κs. tt) (λ c κs. tt) (λ c κs. tt) (λ c κs. tt) (λ c κs. tt) (λ c κs. tt) (λ c κs. tt) (λ c κs. tt) (λ c κs. tt) (λ c κs. tt) (λ c κs. tt) (λ c κs. tt) (λ c κs. tt) (λ c κs. tt) (λ c κs. tt) (λ c κs. tt) (λ c κs. tt) (λ c κs. tt) (λ c κs. tt) (λ c κs. tt) (λ c κs. tt) returns)
+tecs-fields-spec = tie.close (tie.spec (λ c κs. tt) (λ c κs. tt) (λ c κs. tt) (λ c κs. tt) (λ c κs. tt) (λ c κs. tt) (λ c κs. tt) (λ c κs. tt) (λ c κs. tt) (λ c κs. tt) (λ c κs. tt) (λ c κs. tt) (λ c κs. tt) (λ c κs. tt) (λ c κs. tt) (λ c κs. tt) returns)

@@ -1,0 +1,89 @@
+//! include/nuthkolla.h, declared again. The layouts are held against the header by tools/test/60-host.
+
+#[repr(C)]
+#[derive(Clone, Copy, Debug, Default, PartialEq)]
+pub struct Tecs {
+    pub seeded: u32,
+    pub slewed_height_m: f32,
+    pub height_m: f32,
+    pub airspeed_mps: f32,
+    pub pitch_integral_rad: f32,
+    pub thrust_integral: f32,
+    pub underspeed: u32,
+    pub filtered_airspeed_mps: f32,
+    pub steady_accel_mps2: f32,
+}
+
+#[repr(C)]
+#[derive(Clone, Copy, Debug, Default, PartialEq)]
+pub struct Guidance {
+    pub config: crate::PlaneGuidanceConfig,
+    pub requested: u32,
+    pub altitude_integral: f32,
+    pub tecs: Tecs,
+}
+
+#[repr(C)]
+#[derive(Clone, Copy, Debug)]
+pub struct Answer {
+    pub refusal: u32,
+    pub field: u32,
+    pub setpoint: u32,
+    pub lateral: u32,
+    pub vertical: u32,
+    pub roll: f32,
+    pub pitch: f32,
+    pub yaw: f32,
+    pub thrust: f32,
+    pub next: usize,
+}
+
+#[repr(C)]
+#[derive(Clone, Copy, Debug, Default)]
+pub struct Call {
+    pub kind: u32,
+    pub regime: u32,
+    pub dt: f32,
+    pub numbers: [f32; 4],
+    pub waypoint: [f32; 2],
+    pub has_leg: u32,
+    pub leg: [f32; 2],
+    pub altitude_m: f32,
+    pub cruise_speed_mps: f32,
+    pub position_m: crate::Vec3,
+    pub velocity_mps: crate::Vec3,
+    pub roll_rad: f32,
+    pub has_airspeed: u32,
+    pub airspeed_mps: f32,
+    pub has_cap: u32,
+    pub pitch_cap_rad: f32,
+}
+
+#[repr(C)]
+#[derive(Clone, Copy, Debug)]
+pub struct Place {
+    pub refusal: u32,
+    pub next: usize,
+}
+
+#[repr(C)]
+#[derive(Clone, Copy, Debug)]
+pub struct ConfigRead {
+    pub refusal: u32,
+    pub next: usize,
+    pub config: crate::PlaneGuidanceConfig,
+}
+
+pub const CALL: u32 = 0;
+pub const SET_CONFIG: u32 = 1;
+pub const NEW: u32 = 2;
+
+extern "C" {
+    pub fn nuthkolla_run(guidance: *mut Guidance, what: u32, bytes: *const u8, length: usize) -> Answer;
+    pub fn nuthkolla_write_call(out: *mut u8, length: usize, at: usize, call: Call) -> Place;
+    pub fn nuthkolla_write_config(out: *mut u8, length: usize, at: usize, config: crate::PlaneGuidanceConfig) -> Place;
+    pub fn nuthkolla_read_config(bytes: *const u8, length: usize, at: usize) -> ConfigRead;
+    pub fn nuthkolla_default_config() -> crate::PlaneGuidanceConfig;
+    pub fn nuthkolla_validate(config: crate::PlaneGuidanceConfig) -> u32;
+    pub fn nuthkolla_flight_mode(requested: u32) -> u32;
+}

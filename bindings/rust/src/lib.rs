@@ -1,0 +1,267 @@
+//! Guidance of small unmanned planes: the proved library behind the published Rust's names.
+//!
+//! [`PlaneGuidance`] stands where stable-flight's stood. What differs for code that moves over:
+//! `new` and `guide` give a [`Result`], since what panicked or went wrong there is refused here, and
+//! a refused call changes nothing; [`VehicleState`] has only what the guidance reads.
+//!
+//! ```
+//! use nuthkolla::{AttitudeCommand, ControlInput, FlightRegime, PlaneGuidance, PlaneGuidanceConfig, Refusal, Setpoint, VehicleState};
+//!
+//! let mut guidance = PlaneGuidance::new(PlaneGuidanceConfig::default())?;
+//! let full_right = ControlInput::Attitude(AttitudeCommand { throttle: 0.7, roll: 1.0, ..Default::default() });
+//! let state = VehicleState::default();
+//! let Setpoint::Plane(setpoint) = guidance.guide(0.01, FlightRegime::Plane, &full_right, &state)? else {
+//!     unreachable!("sticks give a plane attitude");
+//! };
+//! assert_eq!(setpoint.roll_rad, 45f32.to_radians());
+//! assert_eq!(setpoint.thrust, 0.7);
+//! assert_eq!(guidance.guide(-1.0, FlightRegime::Plane, &full_right, &state), Err(Refusal::TimeStep));
+//! # Ok::<(), Refusal>(())
+//! ```
+
+pub mod ffi;
+mod types;
+
+pub use types::*;
+
+/// The greatest length of a call record.
+pub const CALL_BYTES: usize = 86;
+/// The greatest length of a configuration record.
+pub const CONFIG_BYTES: usize = 137;
+
+/// A call as its record carries it.
+#[derive(Clone, Copy, Debug, PartialEq)]
+pub enum Call {
+    Prime,
+    Guide { dt: f32, regime: FlightRegime, input: ControlInput, state: VehicleState, pitch_cap_rad: Option<f32> },
+}
+
+/// Fixed-wing guidance for piloted and offboard flight.
+#[derive(Clone, Debug, PartialEq)]
+pub struct PlaneGuidance {
+    held: ffi::Guidance,
+}
+
+impl PlaneGuidance {
+    /// Guidance with `config`.
+    ///
+    /// # Errors
+    ///
+    /// Refusal 1 with the first field that fails.
+    pub fn new(config: PlaneGuidanceConfig) -> Result<Self, Refusal> {
+        let mut record = [0; CONFIG_BYTES];
+        let next = write_config(&mut record, 0, &config)?;
+        Self::from_record(&record[..next])
+    }
+
+    /// Guidance with the configuration of a record.
+    ///
+    /// # Errors
+    ///
+    /// Refusals 5 and 6 of the record, then 1.
+    pub fn from_record(record: &[u8]) -> Result<Self, Refusal> {
+        let mut guidance = PlaneGuidance { held: ffi::Guidance::default() };
+        guidance.run(ffi::NEW, record)?;
+        Ok(guidance)
+    }
+
+    /// The setpoint for a command.
+    ///
+    /// # Errors
+    ///
+    /// Refusals 2 and 4.
+    pub fn guide(&mut self, dt: f32, regime: FlightRegime, input: &ControlInput, state: &VehicleState) -> Result<Setpoint, Refusal> {
+        self.guide_capped(dt, regime, input, state, None)
+    }
+
+    /// The setpoint for a command, with a waypoint's pitch held within `pitch_cap_rad` either way.
+    ///
+    /// # Errors
+    ///
+    /// Refusals 2, 3 and 4.
+    pub fn guide_capped(
+        &mut self,
+        dt: f32,
+        regime: FlightRegime,
+        input: &ControlInput,
+        state: &VehicleState,
+        pitch_cap_rad: Option<f32>,
+    ) -> Result<Setpoint, Refusal> {
+        let call = Call::Guide { dt, regime, input: *input, state: *state, pitch_cap_rad };
+        let answer = self.call(&call)?;
+        Ok(answer.setpoint.expect("an accepted guide call answers a setpoint"))
+    }
+
+    /// Clears the navigation loops: integrals, demands, and underspeed.
+    pub fn prime(&mut self, _state: &VehicleState) {
+        self.call(&Call::Prime).expect("a prime is never refused");
+    }
+
+    /// Any call; a waypoint's answer names its laws too.
+    ///
+    /// # Errors
+    ///
+    /// Refusals 2, 3 and 4.
+    pub fn call(&mut self, call: &Call) -> Result<Answer, Refusal> {
+        let mut record = [0; CALL_BYTES];
+        let next = write_call(&mut record, 0, call)?;
+        self.call_record(&record[..next])
+    }
+
+    /// The call that a record carries; bytes behind the record are not read.
+    ///
+    /// # Errors
+    ///
+    /// Refusals 5, 6 and 7 of the record, then 2, 3 and 4.
+    pub fn call_record(&mut self, record: &[u8]) -> Result<Answer, Refusal> {
+        let answer = self.run(ffi::CALL, record)?;
+        Ok(Answer { setpoint: setpoint_of(&answer), laws: laws_of(&answer), next: answer.next })
+    }
+
+    /// Sets the configuration; integrals and demands stay.
+    ///
+    /// # Errors
+    ///
+    /// The first field that fails; the configuration then stays as it was.
+    pub fn set_config(&mut self, config: PlaneGuidanceConfig) -> Result<(), InvalidConfig> {
+        let mut record = [0; CONFIG_BYTES];
+        let next = write_config(&mut record, 0, &config).expect("the buffer is long enough");
+        match self.set_config_record(&record[..next]) {
+            Ok(_) => Ok(()),
+            Err(Refusal::Config(field)) => Err(field),
+            Err(other) => unreachable!("the writer's record is read back: {other}"),
+        }
+    }
+
+    /// Sets the configuration of a record, and gives the place after it.
+    ///
+    /// # Errors
+    ///
+    /// Refusals 5 and 6 of the record, then 1.
+    pub fn set_config_record(&mut self, record: &[u8]) -> Result<usize, Refusal> {
+        Ok(self.run(ffi::SET_CONFIG, record)?.next)
+    }
+
+    pub fn config(&self) -> &PlaneGuidanceConfig {
+        &self.held.config
+    }
+
+    /// Always plane; a `Copter` request is refused as unsupported.
+    pub fn flight_mode(&self) -> Option<FlightModeReport> {
+        // Safety: it takes a number.
+        let refusal = unsafe { ffi::nuthkolla_flight_mode(self.held.requested) };
+        Some(FlightModeReport { mode: FlightMode::Plane, refusal: (refusal != 0).then_some(ModeRefusal::Unsupported) })
+    }
+
+    /// The guidance as the library holds it.
+    pub fn held(&self) -> &ffi::Guidance {
+        &self.held
+    }
+
+    fn run(&mut self, what: u32, bytes: &[u8]) -> Result<ffi::Answer, Refusal> {
+        // Safety: both are borrowed for the call, the guidance for itself alone.
+        let answer = unsafe { ffi::nuthkolla_run(&mut self.held, what, bytes.as_ptr(), bytes.len()) };
+        Refusal::of(answer.refusal, answer.field)?;
+        Ok(answer)
+    }
+}
+
+fn setpoint_of(answer: &ffi::Answer) -> Option<Setpoint> {
+    match answer.setpoint {
+        1 => Some(Setpoint::Plane(PlaneSetpoint { roll_rad: answer.roll, pitch_rad: answer.pitch, thrust: answer.thrust })),
+        2 => Some(Setpoint::PlaneRate(BodyRateSetpoint {
+            roll_radps: answer.roll,
+            pitch_radps: answer.pitch,
+            yaw_radps: answer.yaw,
+            thrust: answer.thrust,
+        })),
+        _ => None,
+    }
+}
+
+fn laws_of(answer: &ffi::Answer) -> Option<Laws> {
+    let lateral = match answer.lateral {
+        1 => LateralLaw::Track,
+        2 => LateralLaw::Loiter,
+        _ => return None,
+    };
+    let vertical = match answer.vertical {
+        1 => VerticalLaw::Energy,
+        2 => VerticalLaw::Hold,
+        3 => VerticalLaw::Fallback,
+        _ => return None,
+    };
+    Some(Laws { lateral, vertical })
+}
+
+/// Writes a call's record from the place `at` on, keeps the other bytes, and gives the place after it.
+///
+/// # Errors
+///
+/// Refusal 8.
+pub fn write_call(out: &mut [u8], at: usize, call: &Call) -> Result<usize, Refusal> {
+    // Safety: the buffer is borrowed for the call.
+    let place = unsafe { ffi::nuthkolla_write_call(out.as_mut_ptr(), out.len(), at, numbers_of(call)) };
+    Refusal::of(place.refusal, 0)?;
+    Ok(place.next)
+}
+
+/// Writes a configuration's record from the place `at` on, keeps the other bytes, and gives the place after it.
+///
+/// # Errors
+///
+/// Refusal 8.
+pub fn write_config(out: &mut [u8], at: usize, config: &PlaneGuidanceConfig) -> Result<usize, Refusal> {
+    // Safety: the buffer is borrowed for the call.
+    let place = unsafe { ffi::nuthkolla_write_config(out.as_mut_ptr(), out.len(), at, *config) };
+    Refusal::of(place.refusal, 0)?;
+    Ok(place.next)
+}
+
+/// Reads a configuration's record from the place `at` on, without judging its numbers, and gives the place after it.
+///
+/// # Errors
+///
+/// Refusals 5 and 6.
+pub fn read_config(record: &[u8], at: usize) -> Result<(PlaneGuidanceConfig, usize), Refusal> {
+    // Safety: the bytes are borrowed for the call.
+    let read = unsafe { ffi::nuthkolla_read_config(record.as_ptr(), record.len(), at) };
+    Refusal::of(read.refusal, 0)?;
+    Ok((read.config, read.next))
+}
+
+fn numbers_of(call: &Call) -> ffi::Call {
+    let Call::Guide { dt, regime, input, state, pitch_cap_rad } = call else {
+        return ffi::Call { regime: 1, ..Default::default() };
+    };
+    let regime = match regime {
+        FlightRegime::Copter => 0,
+        FlightRegime::Plane => 1,
+    };
+    let of = |kind, numbers| ffi::Call { kind, regime, dt: *dt, numbers, ..Default::default() };
+    match input {
+        ControlInput::Attitude(k) => of(1, [k.roll, k.pitch, k.throttle, 0.0]),
+        ControlInput::Rate(k) => of(2, [k.roll_rate, k.pitch_rate, k.yaw_rate, k.throttle]),
+        ControlInput::AbsoluteAttitude(k) => of(4, [k.roll_rad, k.pitch_rad, k.thrust, 0.0]),
+        ControlInput::Land(_) => of(5, [0.0; 4]),
+        ControlInput::AbsoluteRate(k) => of(6, [k.roll_radps, k.pitch_radps, k.yaw_radps, k.thrust]),
+        ControlInput::Waypoint(w) => {
+            let leg = w.velocity_mps.unwrap_or_default();
+            ffi::Call {
+                waypoint: [w.position_m.x, w.position_m.y],
+                has_leg: w.velocity_mps.is_some() as u32,
+                leg: [leg.x, leg.y],
+                altitude_m: w.altitude_m,
+                cruise_speed_mps: w.cruise_speed_mps,
+                position_m: state.position_m,
+                velocity_mps: state.velocity_mps,
+                roll_rad: state.roll_rad,
+                has_airspeed: state.airspeed_mps.is_some() as u32,
+                airspeed_mps: state.airspeed_mps.unwrap_or_default(),
+                has_cap: pitch_cap_rad.is_some() as u32,
+                pitch_cap_rad: pitch_cap_rad.unwrap_or_default(),
+                ..of(3, [0.0; 4])
+            }
+        }
+    }
+}

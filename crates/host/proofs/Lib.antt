@@ -1,0 +1,2 @@
+-- What the walk of `nuthkolla_run` cites.
+pub mod Kept

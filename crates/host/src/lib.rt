@@ -1,0 +1,4 @@
+// The guidance for a host in C or Rust, which holds it: exported functions over numbers, byte slices and plain structs.
+pub mod answer;
+pub mod run;
+pub mod writing;

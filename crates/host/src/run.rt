@@ -1,0 +1,125 @@
+// The one function by reference: the host's guidance is copied out, `run` does the work by value, and what it may have
+// changed is put back.
+use crate::answer::RunAnswer;
+use crate::answer::bare;
+use crate::answer::of_field;
+use crate::answer::of_reply;
+use calls::perform;
+use guidance::plane::Created;
+use guidance::plane::PlaneGuidance;
+use records::call::ReadCall;
+use records::call::read_call;
+use records::config::ReadConfig;
+use records::config::read_config;
+ghost use mathlib.Core.Path.{_≡_};
+ghost use Rattle.host.specs.Run as spec;
+
+// The guidance after a call, and the call's answer.
+pub struct Ran {
+    pub guidance: PlaneGuidance,
+    pub answer: RunAnswer,
+}
+
+fn run_call(g: PlaneGuidance, bytes: &[u8]) -> Ran
+    ensures { λ r. ⌜ r ≡ spec.runCall g (now (bytes .entry)) ⌝ }
+{
+    let read = read_call(bytes, 0);
+    match read {
+        ReadCall::Refused(n) => Ran {
+            guidance: g,
+            answer: bare(n as u32, 0, 0),
+        },
+        ReadCall::Read { call, next } => {
+            let done = perform(g, call);
+            let guidance = done.guidance;
+            let reply = done.reply;
+            Ran {
+                guidance,
+                answer: of_reply(reply, next),
+            }
+        }
+    }
+}
+
+fn run_config(g: PlaneGuidance, bytes: &[u8]) -> Ran
+    ensures { λ r. ⌜ r ≡ spec.runConfig g (now (bytes .entry)) ⌝ }
+{
+    let read = read_config(bytes, 0);
+    match read {
+        ReadConfig::Refused(n) => Ran {
+            guidance: g,
+            answer: bare(n as u32, 0, 0),
+        },
+        ReadConfig::Read { config, next } => {
+            let done = g.set_config(config);
+            let guidance = done.guidance;
+            Ran {
+                guidance,
+                answer: of_field(done.field, next),
+            }
+        }
+    }
+}
+
+// The guidance that `new` made, or the one that was there.
+fn made(g: PlaneGuidance, created: Created, next: usize) -> Ran
+    ensures { λ r. ⌜ r ≡ spec.made g created next ⌝ }
+{
+    match created {
+        Created::Refused(field) => Ran {
+            guidance: g,
+            answer: bare(1, field, next),
+        },
+        Created::Made(fresh) => Ran {
+            guidance: fresh,
+            answer: bare(0, 0, next),
+        },
+    }
+}
+
+fn run_new(g: PlaneGuidance, bytes: &[u8]) -> Ran
+    ensures { λ r. ⌜ r ≡ spec.runNew g (now (bytes .entry)) ⌝ }
+{
+    let read = read_config(bytes, 0);
+    match read {
+        ReadConfig::Refused(n) => Ran {
+            guidance: g,
+            answer: bare(n as u32, 0, 0),
+        },
+        ReadConfig::Read { config, next } => made(g, PlaneGuidance::new(config), next),
+    }
+}
+
+pub fn run(g: PlaneGuidance, what: u32, bytes: &[u8]) -> Ran
+    ensures { λ r. ⌜ r ≡ spec.run g what (now (bytes .entry)) ⌝ }
+{
+    if what == 0 {
+        return run_call(g, bytes);
+    }
+    if what == 1 {
+        return run_config(g, bytes);
+    }
+    if what == 2 {
+        return run_new(g, bytes);
+    }
+    Ran {
+        guidance: g,
+        answer: bare(255, 0, 0),
+    }
+}
+
+// A call changes no configuration, so that is put back only where it may have changed.
+#[no_mangle]
+pub extern "C" fn nuthkolla_run(guidance: &mut PlaneGuidance, what: u32, bytes: &[u8]) -> RunAnswer
+    ensures { λ r. ⌜ (now (guidance .exit) ≡ spec.run (now (guidance .entry)) what (now (bytes .entry)) .guidance) × (r ≡ spec.run (now (guidance .entry)) what (now (bytes .entry)) .answer) ⌝ }
+{
+    let g = *guidance;
+    let r = run(g, what, bytes);
+    if what != 0 {
+        guidance.config = r.guidance.config;
+    }
+    guidance.requested = r.guidance.requested;
+    guidance.altitude = r.guidance.altitude;
+    guidance.tecs = r.guidance.tecs;
+    r.answer
+}

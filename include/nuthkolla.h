@@ -1,0 +1,215 @@
+/* Nuthkolla: guidance of small unmanned planes, for a host in C.
+ *
+ * The host holds a guidance, a plain struct of 176 bytes, and runs calls on it. Every function
+ * answers every input: no pointer may be null or wild, and that is all that is asked of a caller.
+ * Nothing is allocated, no file or clock is read, no other memory is kept or changed. Two guidances
+ * can be used from two threads at once; one guidance from one thread at a time.
+ *
+ * Angles are radians, lengths metres, times seconds. North is x, east y, up z; right and nose up are
+ * positive. Numbers are IEEE 754 binary32. Any NaN may come back as another NaN.
+ *
+ * Refusals, in checking order, and 0 for none:
+ *   1  a configuration field fails; `field` has its number
+ *   2  the time step is not finite or not above 0
+ *   3  a waypoint's pitch cap is below 0 (-0 passes, NaN means no cap)
+ *   4  a waypoint's pitch, thrust or a number it would store would not be finite
+ *   5  a record has fewer bytes than its map demands, or its map is cut short, or the place is past the end
+ *   6  a record's map has an unnamed bit, lacks the kind bit, or has half a leg
+ *   7  a kind is above 6, or a regime above 1
+ *   8  a buffer has too few bytes from the named place, or the place is past its end
+ * 255  nuthkolla_run was asked for something that it does not know
+ * A refused call changes no guidance and no buffer.
+ */
+#ifndef NUTHKOLLA_H
+#define NUTHKOLLA_H
+
+#include <stddef.h>
+#include <stdint.h>
+
+#ifdef __cplusplus
+extern "C" {
+#endif
+
+/* ---- configuration: 33 numbers, fields 1 to 33 in this order */
+
+typedef struct nuthkolla_vec3 {
+    float x, y, z;
+} nuthkolla_vec3;
+
+/* Fields 15 to 30: total energy control. */
+typedef struct nuthkolla_tecs_config {
+    float time_constant_s;               /* 15, above 0, finite */
+    float max_climb_mps;                 /* 16, above 0, finite */
+    float min_sink_mps;                  /* 17, above 0, finite */
+    float max_sink_mps;                  /* 18, 0 or above, finite */
+    float thrust_damping;                /* 19, 0 or above, finite */
+    float integrator_gain;               /* 20, 0 or above, finite */
+    float pitch_damping;                 /* 21, 0 or above, finite */
+    float pitch_integrator_gain;         /* 22, 0 or above, finite */
+    float speed_weight;                  /* 23, 0 to 2 */
+    float roll_compensation;             /* 24, 0 or above, finite, m^2/s^3 */
+    float min_airspeed_mps;              /* 25, above 0, finite */
+    float max_airspeed_mps;              /* 26, above 0, finite; below the least, the least rules */
+    float underspeed_share;              /* 27, above 0, up to 1 */
+    float height_demand_time_constant_s; /* 28, above 0, finite */
+    float airspeed_rate_time_constant_s; /* 29, above 0, finite */
+    float kinetic_rate_high_pass_s;      /* 30, above 0, finite */
+} nuthkolla_tecs_config;
+
+typedef struct nuthkolla_config {
+    float max_bank_rad;            /* 1, 0 to pi/2 */
+    float max_pitch_up_rad;        /* 2, 0 to pi/2 */
+    float max_pitch_down_rad;      /* 3, 0 to pi/2, downward */
+    nuthkolla_vec3 max_rate_radps; /* 4 to 6: roll, pitch, yaw; each 0 or above, finite */
+    float trim_pitch_rad;          /* 7, -pi/2 to pi/2 */
+    float cruise_thrust;           /* 8, 0 to 1 */
+    float l1_period_s;             /* 9, above 0, finite */
+    float l1_damping;              /* 10, above 0, finite */
+    float loiter_radius_m;         /* 11, above 0, finite */
+    float altitude_p;              /* 12, 0 or above, finite, rad/m */
+    float altitude_i;              /* 13, 0 or above, finite, rad/(m s) */
+    float altitude_max_integral;   /* 14, 0 or above, finite, m s */
+    nuthkolla_tecs_config tecs;    /* 15 to 30 */
+    float min_thrust;              /* 31, 0 to 1 */
+    float max_thrust;              /* 32, 0 to 1; below the least, the least rules */
+    float climb_thrust_per_rad;    /* 33, 0 or above, finite */
+} nuthkolla_config;
+
+/* ---- guidance */
+
+/* The energy state. Flags are 0 or not 0. Where `seeded` is 0 the demand, the filtered airspeed and the
+ * steady acceleration are absent, whatever numbers stand there. */
+typedef struct nuthkolla_tecs {
+    uint32_t seeded;
+    struct {
+        float slewed_height_m, height_m, airspeed_mps;
+    } demand;
+    float pitch_integral_rad;
+    float thrust_integral;
+    uint32_t underspeed;
+    float filtered_airspeed_mps;
+    float steady_accel_mps2;
+} nuthkolla_tecs;
+
+/* A guidance is made by nuthkolla_run(.., NUTHKOLLA_NEW, ..) and changed by nuthkolla_run alone. It can be
+ * copied, stored and sent as bytes. Other bytes in its place get defined answers too, but none of what is
+ * proved about lists of calls holds for them. */
+typedef struct nuthkolla_guidance {
+    nuthkolla_config config;
+    uint32_t requested; /* the regime of the last accepted guide call: 0 copter, not 0 plane */
+    struct {
+        float integral; /* m s */
+    } altitude;
+    nuthkolla_tecs tecs;
+} nuthkolla_guidance;
+
+/* ---- calls on a guidance */
+
+enum {
+    NUTHKOLLA_CALL = 0,       /* bytes: a call record, a guide or prime call */
+    NUTHKOLLA_SET_CONFIG = 1, /* bytes: a configuration record, which becomes the configuration */
+    NUTHKOLLA_NEW = 2         /* bytes: a configuration record, from which a fresh guidance is made */
+};
+
+enum { NUTHKOLLA_NO_SETPOINT = 0, NUTHKOLLA_PLANE = 1, NUTHKOLLA_PLANE_RATE = 2 };
+enum { NUTHKOLLA_TRACK = 1, NUTHKOLLA_LOITER = 2 };
+enum { NUTHKOLLA_ENERGY = 1, NUTHKOLLA_HOLD = 2, NUTHKOLLA_FALLBACK = 3 };
+enum { NUTHKOLLA_UNKNOWN = 255 };
+
+typedef struct nuthkolla_answer {
+    uint32_t refusal;  /* 0, or the refusal's number */
+    uint32_t field;    /* of refusal 1 the failing field's number, else 0 */
+    uint32_t setpoint; /* 0 none, 1 plane setpoint, 2 plane rate setpoint */
+    uint32_t lateral;  /* of a waypoint 1 track, 2 loiter; else 0 */
+    uint32_t vertical; /* of a waypoint 1 energy, 2 hold, 3 fallback; else 0 */
+    float roll;        /* rad; of a plane rate setpoint rad/s */
+    float pitch;       /* rad; of a plane rate setpoint rad/s */
+    float yaw;         /* 0; of a plane rate setpoint rad/s */
+    float thrust;      /* 0 to 1 */
+    size_t next;       /* the place after the record; 0 where no record was read (refusals 5, 6, 7, 255) */
+} nuthkolla_answer;
+
+/* Runs one call on the host's guidance. `bytes` is one record, read from its first byte; bytes behind it are
+ * not read, and `next` says where it ended.
+ *   NUTHKOLLA_CALL        refusals 5, 6, 7 of the record; 2, 3, 4 of a guide call. A prime answers without a
+ *                         setpoint. A guide call answers a setpoint, a waypoint its two laws too.
+ *   NUTHKOLLA_SET_CONFIG  refusals 5, 6 of the record; 1 with its field. Integrals and demands are kept.
+ *   NUTHKOLLA_NEW         the same refusals; otherwise the guidance becomes a fresh one, whatever it was.
+ *                         The struct need not be initialised before, if its bytes can be read.
+ *   any other number      refusal 255
+ * What is proved: the answer and the whole guidance afterwards, for every input, equal the definitions that
+ * docs/ARCHITECTURE.md names; of lists of these calls the owner's demand 3 is proved. */
+nuthkolla_answer nuthkolla_run(nuthkolla_guidance *guidance, uint32_t what, const uint8_t *bytes, size_t length);
+
+/* ---- records */
+
+/* The greatest length of a record. */
+enum { NUTHKOLLA_CALL_BYTES = 86, NUTHKOLLA_CONFIG_BYTES = 137 };
+
+/* Kinds of a call. */
+enum {
+    NUTHKOLLA_PRIME = 0,
+    NUTHKOLLA_ATTITUDE = 1,          /* sticks: first roll, second pitch (-1 to 1), third throttle (0 to 1) */
+    NUTHKOLLA_RATE = 2,              /* sticks: first roll, second pitch, third yaw rate (-1 to 1), fourth throttle */
+    NUTHKOLLA_WAYPOINT = 3,          /* the fields from waypoint_north_m on */
+    NUTHKOLLA_ABSOLUTE_ATTITUDE = 4, /* first roll rad, second pitch rad, third thrust */
+    NUTHKOLLA_LAND = 5,
+    NUTHKOLLA_ABSOLUTE_RATE = 6      /* first roll, second pitch, third yaw rad/s, fourth thrust */
+};
+
+/* A call as numbers. What the kind does not use is not read. Flags are 0 or not 0. */
+typedef struct nuthkolla_call {
+    uint32_t kind;   /* 0 to 6 */
+    uint32_t regime; /* 0 copter, 1 plane; unused by a prime, but above 1 refused */
+    float dt;        /* time step, s */
+    float first, second, third, fourth;
+    float waypoint_north_m, waypoint_east_m;
+    uint32_t has_leg; /* with a leg the line through the waypoint is flown, without one a loiter around it */
+    float leg_north_mps, leg_east_mps;
+    float altitude_m;
+    float cruise_speed_mps; /* the airspeed to hold; 0 or below for none */
+    nuthkolla_vec3 position_m, velocity_mps;
+    float roll_rad;
+    uint32_t has_airspeed;
+    float airspeed_mps;
+    uint32_t has_cap;
+    float pitch_cap_rad; /* pitch is held within it either way */
+} nuthkolla_call;
+
+typedef struct nuthkolla_place {
+    uint32_t refusal; /* 0, or the refusal's number */
+    size_t next;      /* the place after the record; 0 where it was refused */
+} nuthkolla_place;
+
+typedef struct nuthkolla_config_read {
+    uint32_t refusal;
+    size_t next;
+    nuthkolla_config config; /* the default configuration where it was refused */
+} nuthkolla_config_read;
+
+/* Writes a call's record into `out` from the place `at` on; other bytes are kept. Refusal 7 for a kind above 6
+ * or a regime above 1, then 8. */
+nuthkolla_place nuthkolla_write_call(uint8_t *out, size_t length, size_t at, nuthkolla_call call);
+
+/* Writes a configuration's record likewise, whether its numbers pass or not. Refusal 8. */
+nuthkolla_place nuthkolla_write_config(uint8_t *out, size_t length, size_t at, nuthkolla_config config);
+
+/* Reads a configuration's record from the place `at` on, without judging its numbers. Refusals 5, 6. */
+nuthkolla_config_read nuthkolla_read_config(const uint8_t *bytes, size_t length, size_t at);
+
+/* ---- without a guidance or a record */
+
+nuthkolla_config nuthkolla_default_config(void);
+
+/* 0, or the number of the first field that fails. */
+uint32_t nuthkolla_validate(nuthkolla_config config);
+
+/* The mode report of a guidance, from its `requested`: the mode is always plane; 0, or 1 where the requested
+ * regime, copter, is unsupported. */
+uint32_t nuthkolla_flight_mode(uint32_t requested);
+
+#ifdef __cplusplus
+}
+#endif
+
+#endif

@@ -1,0 +1,73 @@
+/* Replays a recording or a list of tools/oracle through the archive, and prints the oracle's lines.
+ *     replay desk|list [--state] < INPUT */
+#include "lines.h"
+
+#include <stdlib.h>
+
+static uint8_t input[1 << 24];
+
+static void print_state(unsigned long number, const nuthkolla_guidance *g)
+{
+    const nuthkolla_tecs *t = &g->tecs;
+    printf("%lu state %u %08x %u %08x %08x %08x %08x %08x %08x %08x %u\n", number, g->requested != 0, bits(g->altitude.integral), t->seeded != 0,
+        bits(t->demand.slewed_height_m), bits(t->demand.height_m), bits(t->demand.airspeed_mps), bits(t->filtered_airspeed_mps),
+        bits(t->steady_accel_mps2), bits(t->pitch_integral_rad), bits(t->thrust_integral), t->underspeed != 0);
+}
+
+/* A refusal of a record, after which nothing more is read. */
+static int stops(uint32_t refusal) { return refusal == 5 || refusal == 6 || refusal == 7; }
+
+/* One entry; 0 where the run stops. */
+static int entry(nuthkolla_guidance *g, unsigned long number, uint32_t what, size_t length, size_t *place)
+{
+    nuthkolla_answer a = nuthkolla_run(g, what, input + *place, length - *place);
+    if (stops(a.refusal)) {
+        printf("%lu stopped %u\n", number, a.refusal);
+        return 0;
+    }
+    *place += a.next;
+    if (what == NUTHKOLLA_CALL)
+        print_answer(stdout, number, &a);
+    else if (a.refusal == 0)
+        printf("%lu set\n", number);
+    else
+        printf("%lu refused 1 %u\n", number, a.field);
+    return 1;
+}
+
+int main(int count, char **words)
+{
+    int list = count > 1 && strcmp(words[1], "list") == 0;
+    int state = count > 2 && strcmp(words[2], "--state") == 0;
+    size_t length = fread(input, 1, sizeof input, stdin);
+    nuthkolla_guidance g;
+    memset(&g, 0xa5, sizeof g);
+    nuthkolla_answer made = nuthkolla_run(&g, NUTHKOLLA_NEW, input, length);
+    if (made.refusal != 0) {
+        if (made.refusal == 1)
+            printf("config refused %u\n", made.field);
+        else
+            printf("config stopped %u\n", made.refusal);
+        return 0;
+    }
+    size_t place = made.next;
+    for (unsigned long number = 1; place < length; number++) {
+        uint32_t what = NUTHKOLLA_CALL;
+        if (!list && number > 4096) {
+            printf("%lu stopped 9\n", number);
+            return 0;
+        }
+        if (list) {
+            what = input[place++];
+            if (what > 1) {
+                printf("%lu stopped tag\n", number);
+                return 0;
+            }
+        }
+        if (!entry(&g, number, what, length, &place))
+            return 0;
+        if (state)
+            print_state(number, &g);
+    }
+    return 0;
+}
