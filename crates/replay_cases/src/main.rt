@@ -47,27 +47,28 @@ fn is_kept(s: &[u8], from: usize) -> bool {
     true
 }
 
-// Whether a replay into the first bytes of a buffer gives these lines, or number 8 where they have no room.
-fn is_right(recording: &[u8], lines: &[u8], room: usize) -> bool {
+// Whether a replay into a buffer gives these lines, or number 8 where it has no room for them.
+fn is_right(recording: &[u8], lines: &[u8], out: &mut [u8]) -> bool {
+    let room = out.len();
+    let w = replay::replay(recording, out);
+    match w {
+        Written::Next(n) => (n == lines.len()) & starts_with(out, lines) & is_kept(out, n),
+        Written::Refused(r) => (r == 8) & (room < lines.len()) & is_kept(out, 0),
+    }
+}
+
+fn fits(recording: &[u8], lines: &[u8], room: usize) -> bool {
     let mut out = text_room();
     if 327761 < room {
         return false;
     }
-    let w = replay::replay(recording, &mut out[..room]);
-    match w {
-        Written::Next(n) => (n == lines.len()) & starts_with(&out, lines) & is_kept(&out, n),
-        Written::Refused(r) => (r == 8) & (room < lines.len()) & is_kept(&out, 0),
-    }
+    is_right(recording, lines, &mut out[..room])
 }
 
 fn agrees(recording: &[u8], lines: &[u8]) -> bool {
     let n = lines.len();
-    if n == 0 {
-        return is_right(recording, lines, 327761) & is_right(recording, lines, 0);
-    }
-    is_right(recording, lines, 327761)
-        & is_right(recording, lines, n)
-        & is_right(recording, lines, n - 1)
+    let short = if n == 0 { 0 } else { n - 1 };
+    fits(recording, lines, 327761) & fits(recording, lines, n) & fits(recording, lines, short)
 }
 
 // Reads a file to its end; one that is missing has no bytes.

@@ -1,0 +1,2 @@
+-- Laws of the cases.
+pub mod Law
