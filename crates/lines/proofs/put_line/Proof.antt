@@ -1,19 +1,15 @@
+-- `put_line` meets its contract: what stands after each piece. Assumes nothing.
+use mathlib.Core.List.{_++_}
+use Prim.Native.Nat.{_+_, _-_}
 use native.Mathlib.Omega.{arith}
 use borrow.Rule.Slice.PartMut.{putMid}
-use mathlib.Core.List.{_++_, _∷_, []}
-use Prim.Native.Nat.{_+_, _-_}
-use lib.ListN.{length, take, set}
+use lib.ListN.{length}
+use borrow.Author.Needs.{needs}
 use Rattle.lines.specs.Line.{subject, words, numbers}
 use Rattle.lines.proofs.PutLaw.{Wrote, wrote-first, wrote-rest, wrote-byte, room-after}
 use Rattle.lines.proofs.TextLaw.{text-long, line-put}
-use borrow.Author.Needs.{needs}
 use Rattle.lines.proofs.put_line.Statement.{statement}
 use Rattle.lines.proofs.put_line.Tie as tie
-use Rattle.lines.proofs.put_line.Reads as reads
-use Rattle.lines.proofs.put_line.Lts as lts
-use Rattle.lines.proofs.put_numbers.Reads as put-numbers-reads
-use Rattle.lines.proofs.put_subject.Reads as put-subject-reads
-use Rattle.lines.proofs.put_words.Reads as put-words-reads
 
 -- what stands after the subject, after the words and after the numbers
 subject-put : (c : tie.After-slice-known2) → Wrote (c .before .before .before .before .before .before .args .part .now) (c .before .before .put-subject .last .0) (c .before .before .put-subject .result) (subject (c .before .before .before .before .before .before .args .l .number))
@@ -23,71 +19,56 @@ words-put : (c : tie.After-slice-known3)
     → Wrote (c .before .before .before .before .before .before .before .before .before .before .args .part .now) (putMid (c .before .before .before .before .before .before .put-subject .result) (length (c .before .before .before .before .before .before .put-subject .last .0) - c .before .before .before .before .before .before .put-subject .result) (c .before .before .before .before .before .before .put-subject .last .0) (c .before .before .put-words .last .0)) (c .before .before .before .before .before .before .put-subject .result + c .before .before .put-words .result) (subject (c .before .before .before .before .before .before .before .before .before .before .args .l .number) ++ words (c .before .before .before .before .before .before .before .before .before .before .args .l .first) (c .before .before .before .before .before .before .before .before .before .before .args .l .second))
 words-put c = wrote-rest (subject-put (c .before .before .before .before)) _ _ _ (omega (arith, subject-put (c .before .before .before .before), text-long (c .before .before .before .before .before .before .before .before .before .before .args .l), c .before .before .before .before .before .before .before .before .before .before .pre)) (c .before .before .put-words .ensures)
 
--- src/lib.rt:177:9
 put-subject-requires : tie.Need-put-subject-requires
 put-subject-requires c κs = omega (arith, text-long (c .before .before .before .args .l), c .before .before .before .pre)
 
--- src/lib.rt:178:27
 sub-put-words : tie.Need-sub-put-words
 sub-put-words c = omega (arith, subject-put c, text-long (c .before .before .before .before .before .before .args .l), c .before .before .before .before .before .before .pre)
 
--- src/lib.rt:178:27
 part-put-words-start : tie.Need-part-put-words-start
 part-put-words-start c = omega (arith, subject-put c, text-long (c .before .before .before .before .before .before .args .l), c .before .before .before .before .before .before .pre)
 
--- src/lib.rt:178:27
 part-put-words-end : tie.Need-part-put-words-end
 part-put-words-end c = search needs
 
--- src/lib.rt:178:17
 put-words-requires : tie.Need-put-words-requires
 put-words-requires c κs = room-after (subject-put (c .before)) _ (omega (arith, subject-put (c .before), text-long (c .before .before .before .before .before .before .before .args .l), c .before .before .before .before .before .before .before .pre))
 
--- src/lib.rt:178:13
 add-b : tie.Need-add-b
 add-b c = omega (arith, words-put c .place, words-put c .long, text-long (c .before .before .before .before .before .before .before .before .before .before .args .l), c .before .before .before .before .before .before .before .before .before .before .pre)
 
--- src/lib.rt:179:29
 sub-put-numbers : tie.Need-sub-put-numbers
 sub-put-numbers c = omega (arith, words-put c, text-long (c .before .before .before .before .before .before .before .before .before .before .args .l), c .before .before .before .before .before .before .before .before .before .before .pre)
 
--- src/lib.rt:179:29
 part-put-numbers-start : tie.Need-part-put-numbers-start
 part-put-numbers-start c = omega (arith, words-put c, text-long (c .before .before .before .before .before .before .before .before .before .before .args .l), c .before .before .before .before .before .before .before .before .before .before .pre)
 
--- src/lib.rt:179:29
 part-put-numbers-end : tie.Need-part-put-numbers-end
 part-put-numbers-end c = search needs
 
--- src/lib.rt:179:17
 put-numbers-requires : tie.Need-put-numbers-requires
 put-numbers-requires c κs = (c .before .before .before .before .before .before .before .before .before .before .before .pre .0, room-after (words-put (c .before)) _ (omega (arith, words-put (c .before), text-long (c .before .before .before .before .before .before .before .before .before .before .before .args .l), c .before .before .before .before .before .before .before .before .before .before .before .pre)))
 
--- src/lib.rt:179:13
 add-e : tie.Need-add-e
 add-e c =
     let f = wrote-rest (words-put (c .before .before .before .before)) _ _ _ (omega (arith, words-put (c .before .before .before .before) .place, text-long (c .before .before .before .before .before .before .before .before .before .before .before .before .before .before .args .l), c .before .before .before .before .before .before .before .before .before .before .before .before .before .before .pre)) (c .before .before .put-numbers .ensures) in
     omega (arith, f .place, f .long, text-long (c .before .before .before .before .before .before .before .before .before .before .before .before .before .before .args .l), c .before .before .before .before .before .before .before .before .before .before .before .before .before .before .pre)
 
--- src/lib.rt:180:5
 slice-write-part : tie.Need-slice-write-part
 slice-write-part c =
     let f = wrote-rest (words-put (c .before .before .before .before)) _ _ _ (omega (arith, words-put (c .before .before .before .before) .place, text-long (c .before .before .before .before .before .before .before .before .before .before .before .before .before .before .args .l), c .before .before .before .before .before .before .before .before .before .before .before .before .before .before .pre)) (c .before .before .put-numbers .ensures) in
     omega (arith, f .place, f .long, text-long (c .before .before .before .before .before .before .before .before .before .before .before .before .before .before .args .l), c .before .before .before .before .before .before .before .before .before .before .before .before .before .before .pre)
 
--- src/lib.rt:181:5
 add-result : tie.Need-add-result
 add-result c =
     let f = wrote-rest (words-put (c .before .before .before .before)) _ _ _ (omega (arith, words-put (c .before .before .before .before) .place, text-long (c .before .before .before .before .before .before .before .before .before .before .before .before .before .before .args .l), c .before .before .before .before .before .before .before .before .before .before .before .before .before .before .pre)) (c .before .before .put-numbers .ensures) in
     omega (arith, f .place, f .long, text-long (c .before .before .before .before .before .before .before .before .before .before .before .before .before .before .args .l), c .before .before .before .before .before .before .before .before .before .before .before .before .before .before .pre)
 
--- src/lib.rt:170:1
 same-length : tie.Need-same-length
 same-length c =
     let f = wrote-rest (words-put (c .before .before .before .before)) _ _ _ (omega (arith, words-put (c .before .before .before .before) .place, text-long (c .before .before .before .before .before .before .before .before .before .before .before .before .before .before .args .l), c .before .before .before .before .before .before .before .before .before .before .before .before .before .before .pre)) (c .before .before .put-numbers .ensures) in
     wrote-byte f 10 (omega (arith, f .place, f .long, text-long (c .before .before .before .before .before .before .before .before .before .before .before .before .before .before .args .l), c .before .before .before .before .before .before .before .before .before .before .before .before .before .before .pre)) .long
 
--- src/lib.rt:170:1
 returns : tie.Need-returns
 returns c =
     let f = wrote-rest (words-put (c .before .before .before .before)) _ _ _ (omega (arith, words-put (c .before .before .before .before) .place, text-long (c .before .before .before .before .before .before .before .before .before .before .before .before .before .before .args .l), c .before .before .before .before .before .before .before .before .before .before .before .before .before .before .pre)) (c .before .before .put-numbers .ensures) in

@@ -1,37 +1,27 @@
-use Rattle.lines.proofs.TextLaw.{config-fits, config-puts, number-fits, number-puts}
+-- `put_subject` meets its contract. Assumes nothing.
 use borrow.Author.Needs.{needs}
+use Rattle.lines.proofs.TextLaw.{config-fits, config-puts, number-fits, number-puts}
 use Rattle.lines.proofs.put_subject.Statement.{statement}
 use Rattle.lines.proofs.put_subject.Tie as tie
-use Rattle.lines.proofs.put_subject.Reads as reads
-use Rattle.lines.proofs.put_subject.Lts as lts
-use Rattle.lines.proofs.put_bytes.Reads as put-bytes-reads
-use Rattle.lines.proofs.put_decimal.Reads as put-decimal-reads
 
--- src/lib.rt:122:25
 slice-aggregate-put-bytes : tie.Need-slice-aggregate-put-bytes
 slice-aggregate-put-bytes c = search needs
 
--- src/lib.rt:122:9
 put-bytes-requires : tie.Need-put-bytes-requires
 put-bytes-requires c κs = config-fits _ _ (c .before .before .if1 .taken) (c .before .before .before .before .pre)
 
--- src/lib.rt:124:9
 put-decimal-requires : tie.Need-put-decimal-requires
 put-decimal-requires c κs = number-fits _ _ (c .before .if1 .left) (c .before .before .before .pre)
 
--- src/lib.rt:117:1
 same-length : tie.Need-same-length
 same-length c = search needs
 
--- src/lib.rt:117:1
 returns : tie.Need-returns
 returns c = config-puts (c .before .before .before .before .before .if1 .taken) (c .before .before .put-bytes .ensures)
 
--- src/lib.rt:117:1
 same-length-2 : tie.Need-same-length-2
 same-length-2 c = search needs
 
--- src/lib.rt:117:1
 returns-2 : tie.Need-returns-2
 returns-2 c = number-puts (c .before .before .before .before .if1 .left) (c .before .before .put-decimal .ensures)
 

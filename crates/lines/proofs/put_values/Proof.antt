@@ -1,13 +1,10 @@
-use Rattle.lines.proofs.TextLaw.{hex-size}
-use native.Mathlib.Omega.{arith}
+-- `put_values` meets its contract: the first i values are written. Assumes nothing.
 use Prim.Native.Nat.{_-_}
-use lib.ListN.{length, length-set}
-use Rattle.lines.proofs.TextLaw.{Listing, list-starts, list-space, list-room, list-turn, list-done}
+use native.Mathlib.Omega.{arith}
+use lib.ListN.{length-set}
+use Rattle.lines.proofs.TextLaw.{hex-size, Listing, list-starts, list-room, list-turn, list-done}
 use Rattle.lines.proofs.put_values.Statement.{statement}
 use Rattle.lines.proofs.put_values.Tie as tie
-use Rattle.lines.proofs.put_values.Reads as reads
-use Rattle.lines.proofs.put_values.Lts as lts
-use Rattle.lines.proofs.put_hex.Reads as put-hex-reads
 
 abbrev Inv-loop : tie.InvT-loop
 Inv-loop part₀ count v at₀ i₀ part at i = Listing v count part₀ part at i
@@ -15,63 +12,48 @@ Inv-loop part₀ count v at₀ i₀ part at i = Listing v count part₀ part at 
 abbrev μ-loop : tie.MeasureT-loop
 μ-loop part₀ count v at₀ i₀ part at i = count - i
 
--- src/lib.rt:145:5
 loop-holds : tie.Need-loop-holds Inv-loop μ-loop
 loop-holds c = list-starts _ _ _ (omega arith) (c .before .pre .1)
 
--- src/lib.rt:146:9
 slice-write-part : tie.Need-slice-write-part Inv-loop μ-loop
 slice-write-part c = omega arith
 
--- src/lib.rt:147:9
 add-at : tie.Need-add-at Inv-loop μ-loop
 add-at c = omega arith
 
--- src/lib.rt:148:23
 sub-put-hex : tie.Need-sub-put-hex Inv-loop μ-loop
 sub-put-hex c = simp length-set (omega arith)
 
--- src/lib.rt:148:23
 part-put-hex-start : tie.Need-part-put-hex-start Inv-loop μ-loop
 part-put-hex-start c = simp length-set (omega arith)
 
--- src/lib.rt:148:23
 part-put-hex-end : tie.Need-part-put-hex-end Inv-loop μ-loop
 part-put-hex-end c = omega arith
 
--- src/lib.rt:148:40
 mul-put-hex : tie.Need-mul-put-hex Inv-loop μ-loop
 mul-put-hex c = omega arith
 
--- src/lib.rt:148:40
 array-read-put-hex : tie.Need-array-read-put-hex Inv-loop μ-loop
 array-read-put-hex c = omega arith
 
--- src/lib.rt:148:15
 put-hex-requires : tie.Need-put-hex-requires Inv-loop μ-loop
 put-hex-requires c κs = list-room (c .before .before .loop .inv) (c .before .loop-test .taken)
 
--- src/lib.rt:148:9
 add-at-2 : tie.Need-add-at-2 Inv-loop μ-loop
 add-at-2 c = omega (arith, hex-size _ (c .before .before .put-hex .ensures), c .before .before .before .before .before .loop .inv)
 
--- src/lib.rt:149:9
 add-i : tie.Need-add-i Inv-loop μ-loop
 add-i c = omega arith
 
--- src/lib.rt:145:5
 loop-less : tie.Need-loop-less Inv-loop μ-loop
 loop-less c = omega arith
 
--- src/lib.rt:145:5
 loop-again : tie.Need-loop-again Inv-loop μ-loop
 loop-again c = list-turn (c .before .before .before .before .before .loop .inv) (c .before .before .before .before .loop-test .taken) _ _ (c .before .before .put-hex .ensures)
 
--- src/lib.rt:139:1
 same-length : tie.Need-same-length Inv-loop μ-loop
 same-length c = c .before .loop .inv .wrote .long
 
--- src/lib.rt:139:1
 returns : tie.Need-returns Inv-loop μ-loop
 returns c = list-done (c .before .loop .inv) (c .loop-test .left)
 

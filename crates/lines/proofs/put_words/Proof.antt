@@ -1,50 +1,37 @@
+-- `put_words` meets its contract. Assumes nothing.
+use Prim.Native.Nat.{_-_}
 use native.Mathlib.Omega.{arith}
-use borrow.Rule.Slice.PartMut.{putMid}
-use mathlib.Core.List.{_++_, _∷_, []}
-use Prim.Native.Nat.{_+_, _-_}
-use lib.ListN.{length, take, set}
+use borrow.Author.Needs.{needs}
 use Rattle.lines.specs.Line.{word, words}
 use Rattle.lines.proofs.PutLaw.{Wrote, wrote-first, wrote-rest, wrote-all, room-after}
 use Rattle.lines.proofs.TextLaw.{words-long}
-use borrow.Author.Needs.{needs}
 use Rattle.lines.proofs.put_words.Statement.{statement}
 use Rattle.lines.proofs.put_words.Tie as tie
-use Rattle.lines.proofs.put_words.Reads as reads
-use Rattle.lines.proofs.put_words.Lts as lts
-use Rattle.lines.proofs.put_word.Reads as put-word-reads
 
 wrote : (c : tie.After-slice-known2) → Wrote (c .before .before .before .before .before .args .part .now) (c .before .before .put-word .last .0) (c .before .before .put-word .result) (word (c .before .before .before .before .before .args .first))
 wrote c = wrote-first (c .before .before .put-word .ensures) (omega (arith, words-long (c .before .before .before .before .before .args .first) (c .before .before .before .before .before .args .second), c .before .before .before .before .before .pre))
 
--- src/lib.rt:158:9
 put-word-requires : tie.Need-put-word-requires
 put-word-requires c κs = omega (arith, words-long (c .before .before .args .first) (c .before .before .args .second), c .before .before .pre)
 
--- src/lib.rt:159:19
 sub-put-word : tie.Need-sub-put-word
 sub-put-word c = omega (arith, wrote c, words-long (c .before .before .before .before .before .args .first) (c .before .before .before .before .before .args .second), c .before .before .before .before .before .pre)
 
--- src/lib.rt:159:19
 part-put-word-start : tie.Need-part-put-word-start
 part-put-word-start c = omega (arith, wrote c, words-long (c .before .before .before .before .before .args .first) (c .before .before .before .before .before .args .second), c .before .before .before .before .before .pre)
 
--- src/lib.rt:159:19
 part-put-word-end : tie.Need-part-put-word-end
 part-put-word-end c = search needs
 
--- src/lib.rt:159:10
 put-word-requires-2 : tie.Need-put-word-requires-2
 put-word-requires-2 c κs = room-after (wrote (c .before)) _ (omega (arith, wrote (c .before), words-long (c .before .before .before .before .before .before .args .first) (c .before .before .before .before .before .before .args .second), c .before .before .before .before .before .before .pre))
 
--- src/lib.rt:159:5
 add-result : tie.Need-add-result
 add-result c = omega (arith, wrote (c .before .before .before .before), c .before .before .put-word2 .ensures .size, words-long (c .before .before .before .before .before .before .before .before .before .args .first) (c .before .before .before .before .before .before .before .before .before .args .second), c .before .before .before .before .before .before .before .before .before .pre)
 
--- src/lib.rt:154:1
 same-length : tie.Need-same-length
 same-length c = search needs
 
--- src/lib.rt:154:1
 returns : tie.Need-returns
 unfolding words
 returns c = wrote-all (wrote-rest (wrote (c .before .before .before .before)) _ _ _ (omega (arith, wrote (c .before .before .before .before), words-long (c .before .before .before .before .before .before .before .before .before .args .first) (c .before .before .before .before .before .before .before .before .before .args .second), c .before .before .before .before .before .before .before .before .before .pre)) (c .before .before .put-word2 .ensures))

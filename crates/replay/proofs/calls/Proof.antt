@@ -6,12 +6,6 @@ use Rattle.replay.proofs.PrintLaw.{printed-all}
 use Rattle.replay.proofs.CallsLaw.{Calling, call-starts, call-over, call-turn, left-bad, left-nine, stop-asks, stop-ends, turn-asks}
 use Rattle.replay.proofs.calls.Statement.{statement}
 use Rattle.replay.proofs.calls.Tie as tie
-use Rattle.replay.proofs.calls.Reads as reads
-use Rattle.replay.proofs.calls.Lts as lts
-use Rattle.records.proofs.call.read_call.Reads as read-call-reads
-use Rattle.replay.proofs.print.Reads as print-reads
-use Rattle.replay.proofs.turn.perform.Reads as perform-reads
-use Rattle.replay.proofs.turn.stopped_line.Reads as stopped-line-reads
 
 abbrev Inv-loop : tie.InvT-loop
 Inv-loop s from out₀ write g₀ at₀ to₀ n₀ out g at to n = Calling s from g₀ write out₀ out g at to n
@@ -19,91 +13,69 @@ Inv-loop s from out₀ write g₀ at₀ to₀ n₀ out g at to n = Calling s fro
 abbrev μ-loop : tie.MeasureT-loop
 μ-loop s from out₀ write g₀ at₀ to₀ n₀ out g at to n = 4097 - n
 
--- src/lib.rt:46:5
 loop-holds : tie.Need-loop-holds Inv-loop μ-loop
 loop-holds c = call-starts _ _ _ _ _ (c .before .before .pre)
 
--- src/lib.rt:48:13
 same-length : tie.Need-same-length Inv-loop μ-loop
 same-length c = c .before .before .loop .inv .printed .long
 
--- src/lib.rt:48:13
 returns : tie.Need-returns Inv-loop μ-loop
 returns c = call-over (c .before .before .loop .inv) (c .if1 .taken)
 
--- src/lib.rt:50:13
 read-call-requires : tie.Need-read-call-requires Inv-loop μ-loop
 read-call-requires c κs = search needs
 
--- src/lib.rt:52:31
 enum-known-read : tie.Need-enum-known-read Inv-loop μ-loop
 enum-known-read c = search needs
 
--- src/lib.rt:53:62
 cast-stopped-line : tie.Need-cast-stopped-line Inv-loop μ-loop
 cast-stopped-line c = search needs
 
--- src/lib.rt:53:46
 stopped-line-requires : tie.Need-stopped-line-requires Inv-loop μ-loop
 stopped-line-requires c κs = search needs
 
--- src/lib.rt:53:17
 print-requires : tie.Need-print-requires Inv-loop μ-loop
 print-requires c κs = stop-asks (c .before .before .before .before .before .before .before .before .loop .inv) _ _ (c .stopped-line .ensures) (left-bad (c .before .before .before .before .before .before .before .before .loop .inv) _ (c .before .before .before .before .before .before .before .loop-test .taken) (c .before .before .before .before .before .before .if1 .left) (sym (c .before .before .before .before .before .read-call .ensures) ∙ c .before .before .before .read .given .1))
 
--- src/lib.rt:53:17
 same-length-2 : tie.Need-same-length-2 Inv-loop μ-loop
 same-length-2 c = stop-ends (c .before .before .before .before .before .before .before .before .before .before .before .loop .inv) _ _ (c .before .before .before .stopped-line .ensures) (left-bad (c .before .before .before .before .before .before .before .before .before .before .before .loop .inv) _ (c .before .before .before .before .before .before .before .before .before .before .loop-test .taken) (c .before .before .before .before .before .before .before .before .before .if1 .left) (sym (c .before .before .before .before .before .before .before .before .read-call .ensures) ∙ c .before .before .before .before .before .before .read .given .1)) _ _ (c .before .before .print .ensures) .long
 
--- src/lib.rt:53:17
 returns-2 : tie.Need-returns-2 Inv-loop μ-loop
 returns-2 c = printed-all (stop-ends (c .before .before .before .before .before .before .before .before .before .before .before .loop .inv) _ _ (c .before .before .before .stopped-line .ensures) (left-bad (c .before .before .before .before .before .before .before .before .before .before .before .loop .inv) _ (c .before .before .before .before .before .before .before .before .before .before .loop-test .taken) (c .before .before .before .before .before .before .before .before .before .if1 .left) (sym (c .before .before .before .before .before .before .before .before .read-call .ensures) ∙ c .before .before .before .before .before .before .read .given .1)) _ _ (c .before .before .print .ensures))
 
--- src/lib.rt:55:30
 enum-known-read-2 : tie.Need-enum-known-read-2 Inv-loop μ-loop
 enum-known-read-2 c = search needs
 
--- src/lib.rt:56:21
 perform-requires : tie.Need-perform-requires Inv-loop μ-loop
 perform-requires c κs = search needs
 
--- src/lib.rt:59:17
 print-requires-2 : tie.Need-print-requires-2 Inv-loop μ-loop
 print-requires-2 c κs = turn-asks (c .before .before .before .before .before .before .before .before .before .before .loop .inv) (c .before .before .before .before .before .before .before .before .before .loop-test .taken) (c .before .before .before .before .before .before .before .before .if1 .left) _ _ (sym (c .before .before .before .before .before .before .before .read-call .ensures) ∙ c .before .before .before .before .before .read2 .given .1) _ (c .before .before .before .perform .ensures)
 
--- src/lib.rt:62:17
 add-n : tie.Need-add-n Inv-loop μ-loop
 add-n c = omega arith
 
--- src/lib.rt:46:5
 loop-less : tie.Need-loop-less Inv-loop μ-loop
 loop-less c = omega arith
 
--- src/lib.rt:46:5
 loop-again : tie.Need-loop-again Inv-loop μ-loop
 loop-again c = call-turn (c .before .before .before .before .before .before .before .before .before .before .before .before .before .loop .inv) (c .before .before .before .before .before .before .before .before .before .before .before .before .loop-test .taken) (c .before .before .before .before .before .before .before .before .before .before .before .if1 .left) _ _ (sym (c .before .before .before .before .before .before .before .before .before .before .read-call .ensures) ∙ c .before .before .before .before .before .before .before .before .read2 .given .1) _ (c .before .before .before .before .before .before .perform .ensures) _ _ (c .before .before .print2 .ensures)
 
--- src/lib.rt:67:9
 same-length-3 : tie.Need-same-length-3 Inv-loop μ-loop
 same-length-3 c = c .before .before .loop .inv .printed .long
 
--- src/lib.rt:67:9
 returns-3 : tie.Need-returns-3 Inv-loop μ-loop
 returns-3 c = call-over (c .before .before .loop .inv) (c .if2 .taken)
 
--- src/lib.rt:69:27
 stopped-line-requires-2 : tie.Need-stopped-line-requires-2 Inv-loop μ-loop
 stopped-line-requires-2 c κs = search needs
 
--- src/lib.rt:69:5
 print-requires-3 : tie.Need-print-requires-3 Inv-loop μ-loop
 print-requires-3 c κs = stop-asks (c .before .before .before .before .loop .inv) _ _ (c .stopped-line2 .ensures) (left-nine (c .before .before .before .before .loop .inv) (c .before .before .before .loop-test .left) (c .before .before .if2 .left))
 
--- src/lib.rt:38:1
 same-length-4 : tie.Need-same-length-4 Inv-loop μ-loop
 same-length-4 c = stop-ends (c .before .before .before .before .before .before .before .loop .inv) _ _ (c .before .before .before .stopped-line2 .ensures) (left-nine (c .before .before .before .before .before .before .before .loop .inv) (c .before .before .before .before .before .before .loop-test .left) (c .before .before .before .before .before .if2 .left)) _ _ (c .before .before .print3 .ensures) .long
 
--- src/lib.rt:38:1
 returns-4 : tie.Need-returns-4 Inv-loop μ-loop
 returns-4 c = printed-all (stop-ends (c .before .before .before .before .before .before .before .loop .inv) _ _ (c .before .before .before .stopped-line2 .ensures) (left-nine (c .before .before .before .before .before .before .before .loop .inv) (c .before .before .before .before .before .before .loop-test .left) (c .before .before .before .before .before .if2 .left)) _ _ (c .before .before .print3 .ensures))
 

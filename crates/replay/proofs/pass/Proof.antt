@@ -4,84 +4,58 @@ use Rattle.replay.proofs.CallsLaw.{stopped-count, refused-count, config
 use borrow.Author.Needs.{needs}
 use Rattle.replay.proofs.pass.Statement.{statement}
 use Rattle.replay.proofs.pass.Tie as tie
-use Rattle.replay.proofs.pass.Reads as reads
-use Rattle.replay.proofs.pass.Lts as lts
-use Rattle.guidance.proofs.plane.PlaneGuidance.new.Reads as new-reads
-use Rattle.records.proofs.config.read_config.Reads as read-config-reads
-use Rattle.replay.proofs.calls.Reads as calls-reads
-use Rattle.replay.proofs.print.Reads as print-reads
-use Rattle.replay.proofs.turn.refused_line.Reads as refused-line-reads
-use Rattle.replay.proofs.turn.stopped_line.Reads as stopped-line-reads
 
--- src/lib.rt:77:9
 read-config-requires : tie.Need-read-config-requires
 read-config-requires c κs = search needs
 
--- src/lib.rt:79:29
 enum-known-read : tie.Need-enum-known-read
 enum-known-read c = search needs
 
--- src/lib.rt:79:72
 cast-stopped-line : tie.Need-cast-stopped-line
 cast-stopped-line c = search needs
 
--- src/lib.rt:79:56
 stopped-line-requires : tie.Need-stopped-line-requires
 stopped-line-requires c κs = search needs
 
--- src/lib.rt:79:35
 print-requires : tie.Need-print-requires
 print-requires c κs = alone-asks _ (c .before .before .before .before .before .before .before .before .args .out .now) _ _ _ (c .stopped-line .ensures) (config-bad _ _ (sym (c .before .before .before .before .before .read-config .ensures) ∙ c .before .before .before .read .given .1)) (stopped-count _ _) (c .before .before .before .before .before .before .before .before .pre)
 
--- src/lib.rt:80:28
 enum-known-read-2 : tie.Need-enum-known-read-2
 enum-known-read-2 c = search needs
 
--- src/lib.rt:81:17
 new-requires : tie.Need-new-requires
 new-requires c κs = search needs
 
--- src/lib.rt:83:34
 enum-known-created : tie.Need-enum-known-created
 enum-known-created c = search needs
 
--- src/lib.rt:83:65
 refused-line-requires : tie.Need-refused-line-requires
 refused-line-requires c κs = search needs
 
--- src/lib.rt:83:44
 print-requires-2 : tie.Need-print-requires-2
 print-requires-2 c κs = alone-asks _ (c .before .before .before .before .before .before .before .before .before .before .before .before .args .out .now) _ _ _ (c .refused-line .ensures) (config-refused _ _ _ (sym (c .before .before .before .before .before .before .before .before .before .read-config .ensures) ∙ c .before .before .before .before .before .before .before .read2 .given .1) _ (sym (c .before .before .before .created .given .1) ∙ c .before .before .before .before .before .new .ensures .is)) (refused-count _ _) (c .before .before .before .before .before .before .before .before .before .before .before .before .pre)
 
--- src/lib.rt:84:31
 enum-known-created-2 : tie.Need-enum-known-created-2
 enum-known-created-2 c = search needs
 
--- src/lib.rt:84:37
 calls-requires : tie.Need-calls-requires
 calls-requires c κs = same-asks _ _ _ _ (config-made _ _ _ (sym (c .before .before .before .before .before .before .before .before .read-config .ensures) ∙ c .before .before .before .before .before .before .read2 .given .1) _ (sym (c .before .before .created2 .given .1) ∙ c .before .before .before .before .new .ensures .is)) (c .before .before .before .before .before .before .before .before .before .before .before .pre)
 
--- src/lib.rt:73:1
 same-length : tie.Need-same-length
 same-length c = search needs
 
--- src/lib.rt:73:1
 returns : tie.Need-returns
 returns c = alone-prints _ _ _ _ _ (c .before .before .before .stopped-line .ensures) (config-bad _ _ (sym (c .before .before .before .before .before .before .before .before .read-config .ensures) ∙ c .before .before .before .before .before .before .read .given .1)) _ _ (c .before .before .print .ensures)
 
--- src/lib.rt:73:1
 same-length-2 : tie.Need-same-length-2
 same-length-2 c = search needs
 
--- src/lib.rt:73:1
 returns-2 : tie.Need-returns-2
 returns-2 c = alone-prints _ _ _ _ _ (c .before .before .before .refused-line .ensures) (config-refused _ _ _ (sym (c .before .before .before .before .before .before .before .before .before .before .before .before .read-config .ensures) ∙ c .before .before .before .before .before .before .before .before .before .before .read2 .given .1) _ (sym (c .before .before .before .before .before .before .created .given .1) ∙ c .before .before .before .before .before .before .before .before .new .ensures .is)) _ _ (c .before .before .print2 .ensures)
 
--- src/lib.rt:73:1
 same-length-3 : tie.Need-same-length-3
 same-length-3 c = search needs
 
--- src/lib.rt:73:1
 returns-3 : tie.Need-returns-3
 returns-3 c = rw (config-made _ _ _ (sym (c .before .before .before .before .before .before .before .before .before .before .before .read-config .ensures) ∙ c .before .before .before .before .before .before .before .before .before .read2 .given .1) _ (sym (c .before .before .before .before .before .created2 .given .1) ∙ c .before .before .before .before .before .before .before .new .ensures .is)) (c .before .before .calls .ensures)
 

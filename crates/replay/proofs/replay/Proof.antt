@@ -7,43 +7,31 @@ use Rattle.replay.proofs.CallsLaw.{text-fits}
 use borrow.Author.Needs.{needs}
 use Rattle.replay.proofs.replay.Statement.{statement}
 use Rattle.replay.proofs.replay.Tie as tie
-use Rattle.replay.proofs.replay.Reads as reads
-use Rattle.replay.proofs.replay.Lts as lts
-use Rattle.replay.proofs.pass.Reads as pass-reads
 
--- src/lib.rt:96:13
 pass-requires : tie.Need-pass-requires
 pass-requires c κs = not-asked _ _
 
--- src/lib.rt:98:13
 same-length : tie.Need-same-length
 same-length c = search needs
 
--- src/lib.rt:98:13
 returns : tie.Need-returns
 returns c = answer-refused _ _ _ _ (c .before .before .before .pass .ensures .place ∙ zero-add _) (omega (arith, c .if2 .taken, ap length (c .before .before .before .pass .ensures .bytes))) (c .before .before .before .pass .ensures .bytes)
 
--- src/lib.rt:100:30
 pass-requires-2 : tie.Need-pass-requires-2
 pass-requires-2 c κs = search needs
 
--- src/lib.rt:100:9
 same-length-2 : tie.Need-same-length-2
 same-length-2 c = search needs
 
--- src/lib.rt:100:9
 returns-2 : tie.Need-returns-2
 returns-2 c = answer-text _ _ _ _ (omega (arith, c .before .before .before .before .if2 .left, c .before .before .before .before .before .before .before .pass .ensures .place, ap length (c .before .before .before .before .before .before .before .pass .ensures .bytes))) (rw (c .before .before .before .before .before .before .before .pass .ensures .bytes) at (c .before .before .pass2 .ensures))
 
--- src/lib.rt:102:19
 pass-requires-3 : tie.Need-pass-requires-3
 pass-requires-3 c κs = (λ q. omega (arith, text-fits (c .before .before .before .before .args .s .now), c .before .if1 .left))
 
--- src/lib.rt:92:1
 same-length-3 : tie.Need-same-length-3
 same-length-3 c = search needs
 
--- src/lib.rt:92:1
 returns-3 : tie.Need-returns-3
 returns-3 c = answer-text _ _ _ _ (omega (arith, text-fits (c .before .before .before .before .before .before .before .args .s .now), c .before .before .before .before .if1 .left)) (c .before .before .pass3 .ensures)
 

@@ -1,11 +1,10 @@
+-- `is_kept` meets its contract. Assumes nothing.
 use Prim.Native.Nat.{_-_, _≤_}
-use lib.ListN.{length}
 use native.Mathlib.Omega.{arith}
+use lib.ListN.{length}
 use borrow.Author.Needs.{needs}
 use Rattle.replay_cases.proofs.is_kept.Statement.{statement}
 use Rattle.replay_cases.proofs.is_kept.Tie as tie
-use Rattle.replay_cases.proofs.is_kept.Reads as reads
-use Rattle.replay_cases.proofs.is_kept.Lts as lts
 
 abbrev Inv-loop : tie.InvT-loop
 Inv-loop s from i₀ i = from ≤ i
@@ -13,31 +12,24 @@ Inv-loop s from i₀ i = from ≤ i
 abbrev μ-loop : tie.MeasureT-loop
 μ-loop s from i₀ i = length s - i
 
--- src/main.rt:41:5
 loop-holds : tie.Need-loop-holds Inv-loop μ-loop
 loop-holds c = omega arith
 
--- src/main.rt:42:12
 shared-slice-read-if1 : tie.Need-shared-slice-read-if1 Inv-loop μ-loop
 shared-slice-read-if1 c = omega arith
 
--- src/main.rt:43:13
 returns : tie.Need-returns Inv-loop μ-loop
 returns c = search needs
 
--- src/main.rt:45:9
 add-i : tie.Need-add-i Inv-loop μ-loop
 add-i c = omega arith
 
--- src/main.rt:41:5
 loop-less : tie.Need-loop-less Inv-loop μ-loop
 loop-less c = omega arith
 
--- src/main.rt:41:5
 loop-again : tie.Need-loop-again Inv-loop μ-loop
 loop-again c = omega arith
 
--- src/main.rt:39:1
 returns-2 : tie.Need-returns-2 Inv-loop μ-loop
 returns-2 c = search needs
 

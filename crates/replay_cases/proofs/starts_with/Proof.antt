@@ -1,11 +1,10 @@
+-- `starts_with` meets its contract. Assumes nothing.
 use Prim.Native.Nat.{_-_, _≤_}
-use lib.ListN.{length}
 use native.Mathlib.Omega.{arith}
+use lib.ListN.{length}
 use borrow.Author.Needs.{needs}
 use Rattle.replay_cases.proofs.starts_with.Statement.{statement}
 use Rattle.replay_cases.proofs.starts_with.Tie as tie
-use Rattle.replay_cases.proofs.starts_with.Reads as reads
-use Rattle.replay_cases.proofs.starts_with.Lts as lts
 
 abbrev Inv-loop : tie.InvT-loop
 Inv-loop s front i₀ i = length front ≤ length s
@@ -13,39 +12,30 @@ Inv-loop s front i₀ i = length front ≤ length s
 abbrev μ-loop : tie.MeasureT-loop
 μ-loop s front i₀ i = length front - i
 
--- src/main.rt:26:9
 returns : tie.Need-returns Inv-loop μ-loop
 returns c = search needs
 
--- src/main.rt:29:5
 loop-holds : tie.Need-loop-holds Inv-loop μ-loop
 loop-holds c = omega arith
 
--- src/main.rt:30:12
 shared-slice-read-if2 : tie.Need-shared-slice-read-if2 Inv-loop μ-loop
 shared-slice-read-if2 c = omega arith
 
--- src/main.rt:30:20
 shared-slice-read-if2-2 : tie.Need-shared-slice-read-if2-2 Inv-loop μ-loop
 shared-slice-read-if2-2 c = omega arith
 
--- src/main.rt:31:13
 returns-2 : tie.Need-returns-2 Inv-loop μ-loop
 returns-2 c = search needs
 
--- src/main.rt:33:9
 add-i : tie.Need-add-i Inv-loop μ-loop
 add-i c = omega arith
 
--- src/main.rt:29:5
 loop-less : tie.Need-loop-less Inv-loop μ-loop
 loop-less c = omega arith
 
--- src/main.rt:29:5
 loop-again : tie.Need-loop-again Inv-loop μ-loop
 loop-again c = omega arith
 
--- src/main.rt:24:1
 returns-3 : tie.Need-returns-3 Inv-loop μ-loop
 returns-3 c = search needs
 

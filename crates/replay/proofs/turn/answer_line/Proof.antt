@@ -2,61 +2,42 @@ use Rattle.replay.specs.Text.{answerLine}
 use borrow.Author.Needs.{needs}
 use Rattle.replay.proofs.turn.answer_line.Statement.{statement}
 use Rattle.replay.proofs.turn.answer_line.Tie as tie
-use Rattle.replay.proofs.turn.answer_line.Reads as reads
-use Rattle.replay.proofs.turn.answer_line.Lts as lts
-use Rattle.replay.proofs.turn.kind_word.Reads as kind-word-reads
-use Rattle.replay.proofs.turn.lateral_word.Reads as lateral-word-reads
-use Rattle.replay.proofs.turn.refused_line.Reads as refused-line-reads
-use Rattle.replay.proofs.turn.setpoint_line.Reads as setpoint-line-reads
-use Rattle.replay.proofs.turn.vertical_word.Reads as vertical-word-reads
 
--- src/turn.rt:218:25
 enum-known-answer : tie.Need-enum-known-answer
 enum-known-answer c = search needs
 
--- src/turn.rt:218:37
 refused-line-requires : tie.Need-refused-line-requires
 refused-line-requires c κs = search needs
 
--- src/turn.rt:219:27
 enum-known-answer-2 : tie.Need-enum-known-answer-2
 enum-known-answer-2 c = search needs
 
--- src/turn.rt:221:13
 kind-word-requires : tie.Need-kind-word-requires
 kind-word-requires c κs = search needs
 
--- src/turn.rt:219:40
 setpoint-line-requires : tie.Need-setpoint-line-requires
 setpoint-line-requires c κs = search needs
 
--- src/turn.rt:225:26
 enum-known-answer-3 : tie.Need-enum-known-answer-3
 enum-known-answer-3 c = search needs
 
--- src/turn.rt:232:17
 lateral-word-requires : tie.Need-lateral-word-requires
 lateral-word-requires c κs = search needs
 
--- src/turn.rt:233:17
 vertical-word-requires : tie.Need-vertical-word-requires
 vertical-word-requires c κs = search needs
 
--- src/turn.rt:230:13
 setpoint-line-requires-2 : tie.Need-setpoint-line-requires-2
 setpoint-line-requires-2 c κs = search needs
 
--- src/turn.rt:214:1
 returns : tie.Need-returns
 unfolding answerLine
 returns c = rw (c .refused-line .ensures, c .before .before .answer .given .1)
 
--- src/turn.rt:214:1
 returns-2 : tie.Need-returns-2
 unfolding answerLine
 returns-2 c = rw (c .setpoint-line .ensures, c .before .kind-word .ensures, c .before .before .before .answer2 .given .1)
 
--- src/turn.rt:214:1
 returns-3 : tie.Need-returns-3
 unfolding answerLine
 returns-3 c = rw (c .setpoint-line2 .ensures, c .before .vertical-word .ensures, c .before .before .lateral-word .ensures, c .before .before .before .before .before .answer3 .given .1)

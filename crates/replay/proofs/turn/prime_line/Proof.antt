@@ -2,15 +2,10 @@ use Rattle.replay.specs.Text.{primeLine}
 use borrow.Author.Needs.{needs}
 use Rattle.replay.proofs.turn.prime_line.Statement.{statement}
 use Rattle.replay.proofs.turn.prime_line.Tie as tie
-use Rattle.replay.proofs.turn.prime_line.Reads as reads
-use Rattle.replay.proofs.turn.prime_line.Lts as lts
-use Rattle.replay.proofs.turn.number_line.Reads as number-line-reads
 
--- src/turn.rt:137:5
 number-line-requires : tie.Need-number-line-requires
 number-line-requires c κs = search needs
 
--- src/turn.rt:134:1
 returns : tie.Need-returns
 unfolding primeLine
 returns c = c .number-line .ensures

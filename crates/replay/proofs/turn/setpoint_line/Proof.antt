@@ -2,52 +2,38 @@ use Rattle.replay.specs.Text.{setpointLine}
 use borrow.Author.Needs.{needs}
 use Rattle.replay.proofs.turn.setpoint_line.Statement.{statement}
 use Rattle.replay.proofs.turn.setpoint_line.Tie as tie
-use Rattle.replay.proofs.turn.setpoint_line.Reads as reads
-use Rattle.replay.proofs.turn.setpoint_line.Lts as lts
-use Rattle.fields.proofs.bytes.to_bits.Reads as to-bits-reads
 
--- src/turn.rt:145:13
 enum-known-setpoint : tie.Need-enum-known-setpoint
 enum-known-setpoint c = search needs
 
--- src/turn.rt:153:22
 to-bits-requires : tie.Need-to-bits-requires
 to-bits-requires c κs = search needs
 
--- src/turn.rt:153:41
 to-bits-requires-2 : tie.Need-to-bits-requires-2
 to-bits-requires-2 c κs = search needs
 
--- src/turn.rt:153:61
 to-bits-requires-3 : tie.Need-to-bits-requires-3
 to-bits-requires-3 c κs = search needs
 
--- src/turn.rt:157:13
 enum-known-setpoint-2 : tie.Need-enum-known-setpoint-2
 enum-known-setpoint-2 c = search needs
 
--- src/turn.rt:167:17
 to-bits-requires-4 : tie.Need-to-bits-requires-4
 to-bits-requires-4 c κs = search needs
 
--- src/turn.rt:168:17
 to-bits-requires-5 : tie.Need-to-bits-requires-5
 to-bits-requires-5 c κs = search needs
 
--- src/turn.rt:169:17
 to-bits-requires-6 : tie.Need-to-bits-requires-6
 to-bits-requires-6 c κs = search needs
 
--- src/turn.rt:170:17
 to-bits-requires-7 : tie.Need-to-bits-requires-7
 to-bits-requires-7 c κs = search needs
 
--- src/turn.rt:140:1
 returns : tie.Need-returns
 unfolding setpointLine
 returns c = rw (c .before .before .to-bits .ensures, c .before .to-bits2 .ensures, c .to-bits3 .ensures, c .before .before .before .before .setpoint .given .1)
 
--- src/turn.rt:140:1
 returns-2 : tie.Need-returns-2
 unfolding setpointLine
 returns-2 c = rw (c .before .before .before .to-bits4 .ensures, c .before .before .to-bits5 .ensures, c .before .to-bits6 .ensures, c .to-bits7 .ensures, c .before .before .before .before .before .setpoint2 .given .1)
