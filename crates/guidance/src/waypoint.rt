@@ -331,7 +331,8 @@ pub fn waypoint(
         lateral: lateral_law(w),
         vertical: law,
     };
-    let roll_rad = roll_of(config, w, state);
+    // the roll last: no other number waits for it, so that a processor goes on to the next call meanwhile
     let v = vertical_of(law, config, altitude, tecs, dt, w, state, cap);
+    let roll_rad = roll_of(config, w, state);
     settled(g, regime, laws, roll_rad, v)
 }

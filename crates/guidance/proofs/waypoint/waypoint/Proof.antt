@@ -9,9 +9,9 @@ returns c = rw (c .refusal .ensures, ← c .before .before .bad-cap .ensures, c 
 returns-2 : tie.Need-returns-2
 unfolding waypoint
 returns-2 c =
-    let v = c .before in
-    let r = v .before in
-    let l = r .before in
+    let r = c .before in
+    let v = r .before in
+    let l = v .before in
     let a = l .before in
     let e = a .before .before .before .before in
     rw (c .settled .ensures, v .vertical-of .ensures, r .roll-of .ensures, l .lateral-law .ensures, a .vertical-law .ensures, ← e .before .bad-cap .ensures, e .if1 .left)
