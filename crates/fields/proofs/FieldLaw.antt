@@ -358,6 +358,17 @@ unfolding mapOf
 map-none [] v = refl
 map-none (f ∷ fs) v = refl
 
+-- where no number after the first ones is written, the map is theirs
+pub map-front : (ds es ks ls us vs : List ℕ) → length ks ≡ length ds → length us ≡ length ds → mapOf (numberFields es) ls vs ≡ 0
+    → mapOf (numberFields (ds ++ es)) (ks ++ ls) (us ++ vs) ≡ mapOf (numberFields ds) ks us
+unfolding mapOf numberFields
+map-front [] es [] ls [] vs lk lu z = z
+map-front [] es (k ∷ ks) ls us vs lk lu z = absurd (omega arith)
+map-front [] es [] ls (u ∷ us) vs lk lu z = absurd (omega arith)
+map-front (d ∷ ds) es [] ls us vs lk lu z = absurd (omega arith)
+map-front (d ∷ ds) es (k ∷ ks) ls [] vs lk lu z = absurd (omega arith)
+map-front (d ∷ ds) es (k ∷ ks) ls (u ∷ us) vs lk lu z = rw (map-front ds es ks ls us vs (omega arith) (omega arith) z)
+
 pub map-starts : (keep v missing : List ℕ) → Mapping keep v missing 0 (length keep)
 map-starts keep v missing =
     let z : length keep - length keep ≡ 0 = omega arith in

@@ -3,8 +3,8 @@ use fields::Cursor;
 use fields::Written;
 use fields::bytes::read_number;
 use fields::bytes::write_number;
+use fields::changed;
 use fields::count;
-use fields::map_of;
 use fields::numbers::bits;
 use fields::numbers::floats;
 use fields::read_values;
@@ -158,7 +158,7 @@ pub fn read_config(s: &[u8], at: usize) -> ReadConfig
     if 8589934592 <= map {
         return ReadConfig::Refused(6);
     }
-    let size = 5 + 4 * count(map, 33);
+    let size = 5 + 4 * count(map);
     if s.len() - at < size {
         return ReadConfig::Refused(5);
     }
@@ -174,8 +174,7 @@ fn config_map(v: [u32; 33]) -> u64
     ensures { λ r. ⌜ (r ≡ mapOf configFields (replicate 33 0) v) × (r < 8589934592) ⌝ }
 {
     let missing = default_bits();
-    let keep = [0u8; 33];
-    map_of(&keep, &v, &missing)
+    changed(&v, &missing)
 }
 
 pub fn write_config(out: &mut [u8], at: usize, c: PlaneGuidanceConfig) -> Written
@@ -183,7 +182,7 @@ pub fn write_config(out: &mut [u8], at: usize, c: PlaneGuidanceConfig) -> Writte
 {
     let v = bits_of(c);
     let map = config_map(v);
-    let size = 5 + 4 * count(map, 33);
+    let size = 5 + 4 * count(map);
     if out.len() < at {
         return Written::Refused(8);
     }

@@ -5,6 +5,12 @@ use Rattle.fields.specs.Numbers.{floatsOf}
 use Rattle.records.proofs.call.read_floats.Statement.{statement}
 use Rattle.records.proofs.call.read_floats.Tie as tie
 
+read-command-requires : tie.Need-read-command-requires
+read-command-requires c κs = search needs
+
+returns : tie.Need-returns
+returns c = search needs
+
 slice-aggregate-read-values : tie.Need-slice-aggregate-read-values
 slice-aggregate-read-values c = search needs
 
@@ -20,16 +26,18 @@ slice-aggregate-floats-2 c = search needs
 floats-requires : tie.Need-floats-requires
 floats-requires c κs = search needs
 
-returns : tie.Need-returns
-returns c = c .before .floats .ensures ∙ ap floatsOf (c .before .before .before .before .before .read-values .ensures .0)
+returns-2 : tie.Need-returns-2
+returns-2 c = c .before .floats .ensures ∙ ap floatsOf (c .before .before .before .before .before .read-values .ensures .0)
 
 pub read-floats-spec : {M : Type 1} → statement M
 read-floats-spec =
     tie.close
     (tie.spec
+    read-command-requires
+    returns
     slice-aggregate-read-values
     read-values-requires
     slice-aggregate-floats
     slice-aggregate-floats-2
     floats-requires
-    returns)
+    returns-2)
