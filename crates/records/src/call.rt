@@ -8,8 +8,8 @@ use fields::changed;
 use fields::count;
 use fields::map_of;
 use fields::numbers::bits;
-use fields::numbers::floats;
-use fields::read_values;
+use fields::numbers::read_floats;
+use fields::numbers::read_group;
 use fields::write_values;
 use laws::types::AbsoluteAttitudeCommand;
 use laws::types::AbsoluteRateCommand;
@@ -260,26 +260,36 @@ fn read_command(s: &[u8], from: Cursor, map: u64) -> [f32; 20]
     requires { ⌜ (map < 32) × (from .at + 4 * ones 20 map ≤ length (now s)) ⌝ }
     ensures { λ r. ⌜ r ≡ floatsOf (valuesAt (numberFields (replicate 20 0)) map (drop (from .at) (now (s .entry)))) ⌝ }
 {
-    let mut b = [0u32; 5];
-    read_values(s, from, map, &mut b);
     let mut v = [0.0f32; 20];
-    floats(&b, &mut v[..5]);
+    read_floats(s, from, map, &mut v[..5]);
+    v
+}
+
+// Reads the numbers of bits 2 to 21 by groups, which as a rule stand whole: the command's, point, leg, altitude to roll, and
+// the two that may be absent.
+fn read_waypoint(s: &[u8], from: Cursor, map: u64) -> [f32; 20]
+    requires { ⌜ from .at + 4 * ones 20 map ≤ length (now s) ⌝ }
+    ensures { λ r. ⌜ r ≡ floatsOf (valuesAt (numberFields (replicate 20 0)) map (drop (from .at) (now (s .entry)))) ⌝ }
+{
+    let mut v = [0.0f32; 20];
+    let second = read_floats(s, from, map % 32, &mut v[..5]);
+    let third = read_group(s, second, map / 32 % 4, 3, &mut v[5..7]);
+    let fourth = read_group(s, third, map / 128 % 4, 3, &mut v[7..9]);
+    let fifth = read_group(s, fourth, map / 512 % 512, 511, &mut v[9..18]);
+    read_floats(s, fifth, map / 262144 % 4, &mut v[18..20]);
     v
 }
 
 // Reads the numbers of bits 2 to 21; map has them from its lowest bit on.
-fn read_floats(s: &[u8], from: Cursor, map: u64) -> [f32; 20]
+fn read_numbers(s: &[u8], from: Cursor, map: u64) -> [f32; 20]
     requires { ⌜ from .at + 4 * ones 20 map ≤ length (now s) ⌝ }
     ensures { λ r. ⌜ r ≡ floatsOf (valuesAt (numberFields (replicate 20 0)) map (drop (from .at) (now (s .entry)))) ⌝ }
 {
     if map < 32 {
-        return read_command(s, from, map);
+        read_command(s, from, map)
+    } else {
+        read_waypoint(s, from, map)
     }
-    let mut b = [0u32; 20];
-    read_values(s, from, map, &mut b);
-    let mut v = [0.0f32; 20];
-    floats(&b, &mut v);
-    v
 }
 
 pub fn read_call(s: &[u8], at: usize) -> ReadCall
@@ -307,7 +317,7 @@ pub fn read_call(s: &[u8], at: usize) -> ReadCall
     if 1 < regime.value {
         return ReadCall::Refused(7);
     }
-    let v = read_floats(s, regime.rest, map / 4);
+    let v = read_numbers(s, regime.rest, map / 4);
     let call = call_of(kind.value, regime_of(regime.value), map, v);
     ReadCall::Read {
         call,
