@@ -255,6 +255,18 @@ fn call_of(kind: u64, regime: FlightRegime, map: u64, v: [f32; 20]) -> Call
     }
 }
 
+// Reads the number of bit 2, where none after it stands.
+fn read_step(s: &[u8], from: Cursor, map: u64) -> [f32; 20]
+    requires { ⌜ (map < 2) × (from .at + 4 * ones 20 map ≤ length (now s)) ⌝ }
+    ensures { λ r. ⌜ r ≡ floatsOf (valuesAt (numberFields (replicate 20 0)) map (drop (from .at) (now (s .entry)))) ⌝ }
+{
+    let mut b = [0u32; 1];
+    read_values(s, from, map, &mut b);
+    let mut v = [0.0f32; 20];
+    floats(&b, &mut v[..1]);
+    v
+}
+
 // Reads the numbers of bits 2 to 6, where none after them stands.
 fn read_command(s: &[u8], from: Cursor, map: u64) -> [f32; 20]
     requires { ⌜ (map < 32) × (from .at + 4 * ones 20 map ≤ length (now s)) ⌝ }
@@ -272,6 +284,9 @@ fn read_floats(s: &[u8], from: Cursor, map: u64) -> [f32; 20]
     requires { ⌜ from .at + 4 * ones 20 map ≤ length (now s) ⌝ }
     ensures { λ r. ⌜ r ≡ floatsOf (valuesAt (numberFields (replicate 20 0)) map (drop (from .at) (now (s .entry)))) ⌝ }
 {
+    if map < 2 {
+        return read_step(s, from, map);
+    }
     if map < 32 {
         return read_command(s, from, map);
     }

@@ -1,4 +1,5 @@
 -- `call::read_command` meets its contract. Assumes nothing.
+use mathlib.Core.Path.{refl}
 use native.Mathlib.Omega.{arith}
 use borrow.Author.Needs.{needs}
 use Rattle.records.proofs.CallLaw.{front-ones, front-floats}
@@ -11,7 +12,7 @@ slice-aggregate-read-values c = search needs
 read-values-requires : tie.Need-read-values-requires
 read-values-requires c κs =
     let p = c .before .before .pre in
-    omega (arith, p .1, front-ones (c .before .before .args .map) (p .0))
+    omega (arith, p .1, front-ones 5 15 refl (c .before .before .args .map) (p .0))
 
 slice-aggregate-floats : tie.Need-slice-aggregate-floats
 slice-aggregate-floats c = search needs
@@ -26,7 +27,7 @@ floats-requires : tie.Need-floats-requires
 floats-requires c κs = search needs
 
 returns : tie.Need-returns
-returns c = front-floats _ (c .before .before .before .before .before .before .before .before .pre .0) _ _ _ (c .before .before .before .before .before .read-values .ensures .0) (c .before .floats .ensures)
+returns c = front-floats 5 15 refl _ (c .before .before .before .before .before .before .before .before .pre .0) _ _ _ (c .before .before .before .before .before .read-values .ensures .0) (c .before .floats .ensures)
 
 pub read-command-spec : {M : Type 1} → statement M
 read-command-spec =
