@@ -2,12 +2,13 @@
 use mathlib.Core.Path.{_≡_, refl, sym, ap, _∙_}
 use mathlib.Core.Bool.{Bool, true, false, cond, not}
 use mathlib.Core.List.{List, [], _∷_, _++_, append-assoc}
-use Prim.Native.Nat.{ℕ, _+_, _-_, _*_, _/_, _%_, _<_, _≤_, _^_}
+use Prim.Native.Nat as nat
+use Prim.Native.Nat.{ℕ, suc, _+_, _-_, _*_, _/_, _%_, _<_, _≤_, _^_}
 use native.Mathlib.Omega.{arith}
 use native.Mathlib.Nat.{mod-lt}
 use borrow.Author.Tests.{le-ltb, lt-ltb, le-leb, lt-leb, eqb-true, eqb-false}
 use lib.Dec.{eqb, lit<}
-use lib.ListN.{length, drop, take, replicate, length-append, length-drop, take-append-drop}
+use lib.ListN.{length, drop, take, replicate, length-append, length-drop, length-replicate, replicate-append-replicate, take-append-drop}
 use lib.Seq.{drop-drop, length-take-le}
 use lib.Ieee.{Float, toBits, ofBits}
 use Rattle.laws.specs.declared.types.FlightRegime.{FlightRegime}
@@ -17,6 +18,7 @@ use Rattle.fields.specs.Fields.{Field, ones, named, stands, sizeOf, valuesAt, i
 use Rattle.fields.specs.Numbers.{floatsOf, bitsOf}
 use Rattle.fields.proofs.NumberLaw.{bytes-long}
 use Rattle.fields.proofs.MapLaw.{bits-length, floats-joined, bits-joined, bits-drop}
+use Rattle.fields.proofs.FloatLaw.{floats-none}
 use Rattle.fields.proofs.FieldLaw.{ones-low, ones-below, values-front, body-front, map-front, rest-is, size-numbers, put-none, put-next, body-long, body-missing}
 use Rattle.records.specs.declared.call.ByteRead.{ByteRead}
 use Rattle.records.specs.declared.call.Call.{Call}
@@ -56,24 +58,23 @@ size-is m =
 pub counted : (m n : ℕ) → n ≡ ones 64 (m / 4 % 1048576) → n ≡ ones 20 (m / 4)
 counted m n e = e ∙ ones-low 20 44 (m / 4)
 
-floats-zero : floatsOf (replicate 15 0) ≡ replicate 15 zero
-unfolding floatsOf
-floats-zero = refl
+-- ---- a map in which no number after the first n stands
 
--- ---- a map in which no number after the first five stands
+module _ (n d : ℕ) (all : n + d ≡ 20) (m : ℕ) (h : m < 2 ^ n) where
+  pub front-ones : ones 20 m ≡ ones n m
+  front-ones = ap (λ (k : ℕ). ones k m) (sym all) ∙ ones-below n d m h
 
-module _ (m : ℕ) (h : m < 32) where
-  pub front-ones : ones 20 m ≡ ones 5 m
-  front-ones = ones-below 5 15 m h
+  front-values : (s : List ℕ) → valuesAt Numbers m s ≡ valuesAt (numberFields (replicate n 0)) m s ++ replicate d 0
+  front-values s =
+      let long : length (replicate {A = ℕ} n 0) ≡ n = length-replicate n 0 in
+      let split : replicate {A = ℕ} 20 0 ≡ replicate n 0 ++ replicate d 0 = sym (replicate-append-replicate n d 0 ∙ ap (λ (k : ℕ). replicate k 0) all) in
+      ap (λ (l : List ℕ). valuesAt (numberFields l) m s) split ∙ values-front (replicate n 0) (replicate d 0) m s (rw long h)
 
-  front-values : (s : List ℕ) → valuesAt Numbers m s ≡ valuesAt (numberFields (replicate 5 0)) m s ++ replicate 15 0
-  front-values s = values-front (replicate 5 0) (replicate 15 0) m s h
+  pub front-floats : (s b : List ℕ) (v : List Float) → b ≡ valuesAt (numberFields (replicate n 0)) m s → v ≡ floatsOf b → v ++ replicate d zero ≡ floatsOf (valuesAt Numbers m s)
+  front-floats s b v eb ev = rw (ev, eb, front-values s) (sym (floats-joined (valuesAt (numberFields (replicate n 0)) m s) (replicate d 0) ∙ rw (floats-none d)))
 
-  pub front-floats : (s b : List ℕ) (v : List Float) → b ≡ valuesAt (numberFields (replicate 5 0)) m s → v ≡ floatsOf b → v ++ replicate 15 zero ≡ floatsOf (valuesAt Numbers m s)
-  front-floats s b v eb ev = rw (ev, eb, front-values s) (sym (floats-joined (valuesAt (numberFields (replicate 5 0)) m s) (replicate 15 0) ∙ rw floats-zero))
-
-  pub front-body : (v : List ℕ) → length (take 5 v) ≡ 5 → bodyOf (numberFields (take 5 v)) m (take 5 v) ≡ bodyOf (numberFields v) m v
-  front-body v l = sym (ap (λ (x : List ℕ). bodyOf (numberFields x) m x) (sym (take-append-drop 5 v)) ∙ body-front (take 5 v) (drop 5 v) m (rw l h))
+  pub front-body : (v : List ℕ) → length (take n v) ≡ n → bodyOf (numberFields (take n v)) m (take n v) ≡ bodyOf (numberFields v) m v
+  front-body v l = sym (ap (λ (x : List ℕ). bodyOf (numberFields x) m x) (sym (take-append-drop n v)) ∙ body-front (take n v) (drop n v) m (rw l h))
 
 -- ---- fields of one byte
 

@@ -191,13 +191,14 @@ fn state_of(map: u64, v: [f32; 20]) -> VehicleState
 fn call_of(kind: u64, regime: FlightRegime, map: u64, v: [f32; 20]) -> Call
     ensures { λ r. ⌜ r ≡ spec.callOf kind regime map v ⌝ }
 {
+    let dt = v[0];
     if kind == 0 {
         return Call::Prime;
     }
     if kind == 1 {
         return Call::Attitude {
             regime,
-            dt: v[0],
+            dt,
             command: AttitudeCommand {
                 throttle: v[3],
                 roll: v[1],
@@ -208,7 +209,7 @@ fn call_of(kind: u64, regime: FlightRegime, map: u64, v: [f32; 20]) -> Call
     if kind == 2 {
         return Call::Rate {
             regime,
-            dt: v[0],
+            dt,
             command: RateCommand {
                 throttle: v[4],
                 roll_rate: v[1],
@@ -223,7 +224,7 @@ fn call_of(kind: u64, regime: FlightRegime, map: u64, v: [f32; 20]) -> Call
         let cap = option_of(map / 2097152, v[19]);
         return Call::Waypoint {
             regime,
-            dt: v[0],
+            dt,
             command,
             state,
             cap,
@@ -232,7 +233,7 @@ fn call_of(kind: u64, regime: FlightRegime, map: u64, v: [f32; 20]) -> Call
     if kind == 4 {
         return Call::AbsoluteAttitude {
             regime,
-            dt: v[0],
+            dt,
             command: AbsoluteAttitudeCommand {
                 roll_rad: v[1],
                 pitch_rad: v[2],
@@ -241,11 +242,11 @@ fn call_of(kind: u64, regime: FlightRegime, map: u64, v: [f32; 20]) -> Call
         };
     }
     if kind == 5 {
-        return Call::Land { regime, dt: v[0] };
+        return Call::Land { regime, dt };
     }
     Call::AbsoluteRate {
         regime,
-        dt: v[0],
+        dt,
         command: AbsoluteRateCommand {
             roll_radps: v[1],
             pitch_radps: v[2],
@@ -253,6 +254,16 @@ fn call_of(kind: u64, regime: FlightRegime, map: u64, v: [f32; 20]) -> Call
             thrust: v[4],
         },
     }
+}
+
+// Reads the number of bit 2, where none after it stands.
+fn read_step(s: &[u8], from: Cursor, map: u64) -> [f32; 20]
+    requires { ⌜ (map < 2) × (from .at + 4 * ones 20 map ≤ length (now s)) ⌝ }
+    ensures { λ r. ⌜ r ≡ floatsOf (valuesAt (numberFields (replicate 20 0)) map (drop (from .at) (now (s .entry)))) ⌝ }
+{
+    let mut v = [0.0f32; 20];
+    read_floats(s, from, map, &mut v[..1]);
+    v
 }
 
 // Reads the numbers of bits 2 to 6, where none after them stands.
@@ -285,11 +296,13 @@ fn read_numbers(s: &[u8], from: Cursor, map: u64) -> [f32; 20]
     requires { ⌜ from .at + 4 * ones 20 map ≤ length (now s) ⌝ }
     ensures { λ r. ⌜ r ≡ floatsOf (valuesAt (numberFields (replicate 20 0)) map (drop (from .at) (now (s .entry)))) ⌝ }
 {
-    if map < 32 {
-        read_command(s, from, map)
-    } else {
-        read_waypoint(s, from, map)
+    if map < 2 {
+        return read_step(s, from, map);
     }
+    if map < 32 {
+        return read_command(s, from, map);
+    }
+    read_waypoint(s, from, map)
 }
 
 pub fn read_call(s: &[u8], at: usize) -> ReadCall

@@ -33,10 +33,35 @@ pub enum ReadConfig {
     Refused(u8),
 }
 
+// The energy law's numbers of the 33, fields 15 to 30.
+fn tecs_of(v: [f32; 33]) -> TecsConfig
+    ensures { λ r. ⌜ r ≡ configOf v .tecs ⌝ }
+{
+    TecsConfig {
+        time_constant_s: v[14],
+        max_climb_mps: v[15],
+        min_sink_mps: v[16],
+        max_sink_mps: v[17],
+        thrust_damping: v[18],
+        integrator_gain: v[19],
+        pitch_damping: v[20],
+        pitch_integrator_gain: v[21],
+        speed_weight: v[22],
+        roll_compensation: v[23],
+        min_airspeed_mps: v[24],
+        max_airspeed_mps: v[25],
+        underspeed_share: v[26],
+        height_demand_time_constant_s: v[27],
+        airspeed_rate_time_constant_s: v[28],
+        kinetic_rate_high_pass_s: v[29],
+    }
+}
+
 // The configuration of 33 numbers.
 fn config_of(v: [f32; 33]) -> PlaneGuidanceConfig
     ensures { λ r. ⌜ r ≡ configOf v ⌝ }
 {
+    let tecs = tecs_of(v);
     PlaneGuidanceConfig {
         max_bank_rad: v[0],
         max_pitch_up_rad: v[1],
@@ -54,24 +79,7 @@ fn config_of(v: [f32; 33]) -> PlaneGuidanceConfig
         altitude_p: v[11],
         altitude_i: v[12],
         altitude_max_integral: v[13],
-        tecs: TecsConfig {
-            time_constant_s: v[14],
-            max_climb_mps: v[15],
-            min_sink_mps: v[16],
-            max_sink_mps: v[17],
-            thrust_damping: v[18],
-            integrator_gain: v[19],
-            pitch_damping: v[20],
-            pitch_integrator_gain: v[21],
-            speed_weight: v[22],
-            roll_compensation: v[23],
-            min_airspeed_mps: v[24],
-            max_airspeed_mps: v[25],
-            underspeed_share: v[26],
-            height_demand_time_constant_s: v[27],
-            airspeed_rate_time_constant_s: v[28],
-            kinetic_rate_high_pass_s: v[29],
-        },
+        tecs,
         min_thrust: v[30],
         max_thrust: v[31],
         climb_thrust_per_rad: v[32],

@@ -15,10 +15,10 @@ slice-aggregate-read-floats c = search needs
 read-floats-requires : tie.Need-read-floats-requires
 read-floats-requires c κs =
     let p = c .before .before .pre in
-    (refl, omega (arith, p .1, front-ones (c .before .before .args .map) (p .0)))
+    (refl, omega (arith, p .1, front-ones 5 15 refl (c .before .before .args .map) (p .0)))
 
 returns : tie.Need-returns
-returns c = front-floats _ (c .before .before .before .before .pre .0) _ _ _ refl (c .before .read-floats .ensures .0)
+returns c = front-floats 5 15 refl _ (c .before .before .before .before .pre .0) _ _ _ refl (c .before .read-floats .ensures .0)
 
 pub read-command-spec : {M : Type 1} → statement M
 read-command-spec = tie.close (tie.spec array-borrow-prefix-v slice-aggregate-read-floats read-floats-requires returns)

@@ -1,5 +1,5 @@
 -- `call::write_numbers` meets its contract. Assumes nothing.
-use mathlib.Core.Path.{_≡_, sym, ap, _∙_}
+use mathlib.Core.Path.{_≡_, refl, sym, ap, _∙_}
 use native.Mathlib.Omega.{arith}
 use borrow.Author.Needs.{needs}
 use lib.Seq.{length-take-le}
@@ -19,7 +19,7 @@ slice-aggregate-write-values c = sym (five (c .before .before .before .before .b
 write-values-requires : tie.Need-write-values-requires
 write-values-requires c κs =
     let s = c .before .before .before .before .before in
-    rw (five s) (omega (arith, s .pre .0, front-ones (s .args .map) (c .before .before .if1 .taken)))
+    rw (five s) (omega (arith, s .pre .0, front-ones 5 15 refl (s .args .map) (c .before .before .if1 .taken)))
 
 write-values-requires-2 : tie.Need-write-values-requires-2
 write-values-requires-2 c κs = let s = c .before .before .before .before in rw (s .pre .1) (s .pre .0)
@@ -30,7 +30,7 @@ same-length c = search needs
 returns : tie.Need-returns
 returns c =
     let s = c .before .before .before .before .before .before .before .before in
-    c .before .before .write-values .ensures .0 ∙ ap (putAt (s .args .part .now) (s .args .from)) (front-body (s .args .map) (c .before .before .before .before .before .if1 .taken) (s .args .v .now) (five s))
+    c .before .before .write-values .ensures .0 ∙ ap (putAt (s .args .part .now) (s .args .from)) (front-body 5 15 refl (s .args .map) (c .before .before .before .before .before .if1 .taken) (s .args .v .now) (five s))
 
 same-length-2 : tie.Need-same-length-2
 same-length-2 c = search needs
