@@ -1,16 +1,18 @@
 -- Laws of the loops over fields that are numbers. Assumes nothing.
-use mathlib.Core.Path.{_≡_, refl, sym, ap, _∙_}
+use mathlib.Core.Path.{_≡_, refl, sym, ap, ap₂, _∙_}
 use mathlib.Core.Bool.{Bool, true, false, cond}
 use mathlib.Core.List.{List, [], _∷_, _++_, append-assoc, append-nil}
 use Prim.Native.Nat.{ℕ, zero, suc, _+_, _-_, _*_, _/_, _%_, _<_, _≤_, _^_}
 use native.Mathlib.Omega.{arith}
 use native.Mathlib.Numerals.{add-one}
-use native.Mathlib.Nat.{sub-zero, add-zero, mod-lt, pow-suc, lt-of-lt-of-le}
-use lib.Pow.{pow-mono}
+use native.Mathlib.Nat.{sub-zero, add-zero, mod-lt, mod-eq-of-lt, pow-suc, suc-add, lt-of-lt-of-le}
+use lib.Arith.{mod-mul}
+use lib.Count as all
+use lib.Pow.{pow-mono, pow-pos}
 use borrow.Rule.Slice.PartMut.{putMid, post-is}
 use borrow.Author.Tests.{eq-eqb, ne-eqb, eqb-true, eqb-false}
 use lib.Dec.{eqb, lit<}
-use lib.ListN.{length, set, drop, take, getD, length-append, length-drop, length-set, drop-of-length-le, take-append-drop}
+use lib.ListN.{length, set, drop, take, getD, replicate, length-replicate, getD-replicate, length-append, length-drop, length-set, drop-of-length-le, take-append-drop}
 use lib.Seq.{drop-length, take-all, take-at, drop-at, length-take-le, drop-cons, drop-drop, take-suc, take-suc-set, drop-set-lt}
 use Rattle.fields.specs.Bytes.{numberAt, bytesOf, putAt}
 use Rattle.fields.specs.Fields.{Field, ones, sizeOf, numberFields, valuesAt, isWritten, bitOf, mapOf, bodyOf}
@@ -41,23 +43,37 @@ no-ones m n i h = let z : n - i ≡ 0 = omega arith in rw z (ones-none m)
 not-one : (n : ℕ) → (n ≡ 1 → ⊥) → n < 2 → n ≡ 0
 not-one n h k = omega arith
 
--- what holds in each turn of `count`
-pub record Counting (map n sum m i : ℕ) : Type 0 where
-  pub below : i ≤ n
-  pub is : sum + ones (n - i) m ≡ ones n map
+half-below : (n m : ℕ) → m < 2 ^ suc n → m / 2 < 2 ^ n
+half-below n m h = let e : 2 ^ suc n ≡ 2 ^ n * 2 = pow-suc 2 n in omega arith
 
-pub count-starts : (map n : ℕ) → Counting map n 0 map 0
-count-starts map n = record { below = omega arith; is = rw (sub-zero n) (omega arith) }
+no-bit : (m : ℕ) → m < 2 ^ 0 → m ≡ 0
+no-bit m h = omega arith
 
-module _ {map n sum m i : ℕ} (f : Counting map n sum m i) where
-  pub count-below : sum ≤ n
-  count-below = omega (arith, f .is, ones-le n map)
+-- no bit of 0 stands
+pub ones-of-0 : (n : ℕ) → ones n 0 ≡ 0
+unfolding ones
+ones-of-0 zero = refl
+ones-of-0 (suc n) = omega (arith, ones-of-0 n)
 
-  pub count-turn : i < n → Counting map n (sum + m % 2) (m / 2) (i + 1)
-  count-turn h = record { below = omega arith; is = omega (arith, f .is, ones-step m n i h) }
+-- bits above the n lowest taken off
+pub ones-low : (n d m : ℕ) → ones (n + d) (m % 2 ^ n) ≡ ones n m
+unfolding ones
+ones-low zero d m = let z : m % 1 ≡ 0 = omega arith in rw z (ones-of-0 (0 + d))
+ones-low (suc n) d m =
+    let e : m % 2 ^ suc n ≡ m / 2 % 2 ^ n * 2 + m % 2 = ap (λ (p : ℕ). m % p) (pow-suc 2 n) ∙ mod-mul m (pow-pos n) (lit< tt) in
+    let low : m % 2 ^ suc n % 2 ≡ m % 2 = rw e (omega arith) in
+    let half : m % 2 ^ suc n / 2 ≡ m / 2 % 2 ^ n = rw e (omega arith) in
+    ap (λ (k : ℕ). ones k (m % 2 ^ suc n)) (suc-add n d) ∙ ap₂ (λ (a b : ℕ). a + ones (n + d) b) low half ∙ ap (λ (a : ℕ). m % 2 + a) (ones-low n d (m / 2))
 
-  pub count-done : n ≤ i → (sum ≡ ones n map) × (sum ≤ n)
-  count-done h = (omega (arith, f .is, no-ones m n i h), count-below)
+-- no bit stands above the n lowest
+pub ones-below : (n d m : ℕ) → m < 2 ^ n → ones (n + d) m ≡ ones n m
+ones-below n d m h = ap (ones (n + d)) (sym (mod-eq-of-lt h)) ∙ ones-low n d m
+
+-- the count of all bits
+pub ones-all : (n m : ℕ) → m < 2 ^ n → all.ones m ≡ ones n m
+unfolding ones all.ones
+ones-all zero m h = rw (no-bit m h) refl
+ones-all (suc n) m h = all.ones-step m ∙ ap (λ (x : ℕ). m % 2 + x) (ones-all n (m / 2) (half-below n m h))
 
 -- ---- a part of a slice
 
@@ -85,6 +101,27 @@ module _ (v : List ℕ) (m : ℕ) (s : List ℕ) (i : ℕ) (h : i < length v) wh
   keeps : (m % 2 ≡ 1 → ⊥) → take (i + 1) v ++ valuesAt (numberFields (drop (i + 1) v)) (m / 2) s ≡ take i v ++ valuesAt (numberFields (drop i v)) m s
   unfolding valuesAt numberFields
   keeps e = rw (add-one i, take-suc v i 0 h, drop-cons v i 0 h, ne-eqb _ _ e) (append-assoc (take i v) _ _)
+
+-- where no bit stands, each value is what a missing one means
+pub values-of-0 : (ds s : List ℕ) → valuesAt (numberFields ds) 0 s ≡ ds
+unfolding valuesAt numberFields
+values-of-0 [] s = refl
+values-of-0 (d ∷ ds) s = ap (λ (l : List ℕ). d ∷ l) (values-of-0 ds s)
+
+-- where no bit stands above those of the first fields, the others' values are what missing ones mean
+pub values-front : (cs ds : List ℕ) (m : ℕ) (s : List ℕ) → m < 2 ^ length cs → valuesAt (numberFields (cs ++ ds)) m s ≡ valuesAt (numberFields cs) m s ++ ds
+unfolding valuesAt numberFields
+values-front [] ds m s h = rw (no-bit m h) (values-of-0 ds s)
+values-front (c ∷ cs) ds m s h = go (eqb (m % 2) 1) (λ (r : List ℕ). values-front cs ds (m / 2) r (half-below (length cs) m h))
+  where
+    go : (b : Bool) → ((r : List ℕ) → valuesAt (numberFields (cs ++ ds)) (m / 2) r ≡ valuesAt (numberFields cs) (m / 2) r ++ ds)
+        → cond b (numberAt 4 s ∷ valuesAt (numberFields (cs ++ ds)) (m / 2) (drop 4 s)) (c ∷ valuesAt (numberFields (cs ++ ds)) (m / 2) s)
+        ≡ cond b (numberAt 4 s ∷ valuesAt (numberFields cs) (m / 2) (drop 4 s)) (c ∷ valuesAt (numberFields cs) (m / 2) s) ++ ds
+    go true ih = ap (λ (l : List ℕ). numberAt 4 s ∷ l) (ih (drop 4 s))
+    go false ih = ap (λ (l : List ℕ). c ∷ l) (ih s)
+
+pub read-none : (s v : List ℕ) (from map : ℕ) → map ≡ 0 → (v ≡ valuesAt (numberFields v) map (drop from s)) × (from ≡ from + 4 * ones (length v) map)
+read-none s v from map z = (sym (rw z (values-of-0 v (drop from s))), rw (z, ones-of-0 (length v)) (omega arith))
 
 -- what holds in each turn of `read_values`
 pub record Reading (s : List ℕ) (from map : ℕ) (v₀ v : List ℕ) (at m i : ℕ) : Type 0 where
@@ -175,6 +212,22 @@ put-after n p₀ p₁ p₂ a b l h e₁ e₂ =
 -- the fields of `write_values`; what a missing one means is of no account
 abbrev Body : ℕ → List ℕ → List ℕ
 Body m v = bodyOf (numberFields v) m v
+
+-- where no bit stands, no byte is written
+pub body-of-0 : (fs : List Field) (vs : List ℕ) → bodyOf fs 0 vs ≡ []
+unfolding bodyOf
+body-of-0 [] vs = refl
+body-of-0 (f ∷ fs) [] = refl
+body-of-0 (f ∷ fs) (v ∷ vs) = body-of-0 fs vs
+
+-- where no bit stands above those of the first fields, the others have no bytes
+pub body-front : (us vs : List ℕ) (m : ℕ) → m < 2 ^ length us → Body m (us ++ vs) ≡ Body m us
+unfolding bodyOf numberFields
+body-front [] vs m h = rw (no-bit m h) (body-of-0 (numberFields vs) vs)
+body-front (u ∷ us) vs m h = ap (λ (l : List ℕ). cond (eqb (m % 2) 1) (bytesOf 4 u) [] ++ l) (body-front us vs (m / 2) (half-below (length us) m h))
+
+pub write-none : (out v : List ℕ) (from map : ℕ) → map ≡ 0 → (out ≡ putAt out from (bodyOf (numberFields v) map v)) × (from ≡ from + 4 * ones (length v) map)
+write-none out v from map z = (rw (z, body-of-0 (numberFields v) v) (put-none out from), rw (z, ones-of-0 (length v)) (omega arith))
 
 -- what holds in each turn of `write_values`
 pub record Writing (out₀ : List ℕ) (from map : ℕ) (v : List ℕ) (out : List ℕ) (at m i : ℕ) : Type 0 where
@@ -305,6 +358,17 @@ unfolding mapOf
 map-none [] v = refl
 map-none (f ∷ fs) v = refl
 
+-- where no number after the first ones is written, the map is theirs
+pub map-front : (ds es ks ls us vs : List ℕ) → length ks ≡ length ds → length us ≡ length ds → mapOf (numberFields es) ls vs ≡ 0
+    → mapOf (numberFields (ds ++ es)) (ks ++ ls) (us ++ vs) ≡ mapOf (numberFields ds) ks us
+unfolding mapOf numberFields
+map-front [] es [] ls [] vs lk lu z = z
+map-front [] es (k ∷ ks) ls us vs lk lu z = absurd (omega arith)
+map-front [] es [] ls (u ∷ us) vs lk lu z = absurd (omega arith)
+map-front (d ∷ ds) es [] ls us vs lk lu z = absurd (omega arith)
+map-front (d ∷ ds) es (k ∷ ks) ls [] vs lk lu z = absurd (omega arith)
+map-front (d ∷ ds) es (k ∷ ks) ls (u ∷ us) vs lk lu z = rw (map-front ds es ks ls us vs (omega arith) (omega arith) z)
+
 pub map-starts : (keep v missing : List ℕ) → Mapping keep v missing 0 (length keep)
 map-starts keep v missing =
     let z : length keep - length keep ≡ 0 = omega arith in
@@ -334,3 +398,31 @@ map-done {keep} {v} {missing} {m} {i} f lv ld h k =
     let z : i ≡ 0 = omega arith in
     let s : length keep - i ≡ length keep = omega arith in
     (rw z at (f .is), rw s at (f .small), map-fits f lv ld h)
+
+-- `changed`: the same map, where no number is written whatever its value
+module _ (v missing : List ℕ) where
+  abbrev pub none : List ℕ
+  none = replicate (length v) 0
+
+  abbrev pub Changing : ℕ → ℕ → Type 0
+  Changing m i = Mapping none v missing m i
+
+  none-long : length none ≡ length v
+  none-long = length-replicate (length v) 0
+
+  pub changed-starts : Changing 0 (length v)
+  changed-starts = rw none-long at (map-starts none v missing)
+
+  module _ {m i : ℕ} (f : Changing m i) (l : length missing ≡ length v) where
+    pub changed-below : i ≤ length v
+    changed-below = rw none-long at (f .below)
+
+    pub changed-fits : length v ≤ 40 → m < 2 ^ 40
+    changed-fits h = map-fits f (sym none-long) (l ∙ sym none-long) (rw none-long h)
+
+    pub changed-turn : 0 < i → (b : ℕ) → b ≡ bitOf (isWritten 0 (getD v (i - 1) 0) (getD missing (i - 1) 0)) → Changing (2 * m + b) (i - 1)
+    changed-turn h b e =
+        map-turn f (sym none-long) (l ∙ sym none-long) h b (rw (getD-replicate {A = ℕ} (length v) (i - 1) 0 0 (omega (arith, changed-below))) e)
+
+    pub changed-done : length v ≤ 40 → i ≤ 0 → (m ≡ mapOf (numberFields missing) (replicate (length v) 0) v) × (m < 2 ^ length v) × (m < 2 ^ 40)
+    changed-done h z = rw none-long at (map-done f (sym none-long) (l ∙ sym none-long) (rw none-long h) z)

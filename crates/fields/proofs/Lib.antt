@@ -2,6 +2,8 @@
 pub mod NumberLaw
 pub mod MapLaw
 pub mod FieldLaw
+pub mod FloatLaw
+pub mod GroupLaw
 pub mod WriteLaw
 pub mod RecordLaw
 pub mod LawsProof

@@ -1,7 +1,7 @@
 -- Lists of f32s and their bits: a loop that applies a function to each number of a list. Assumes nothing.
 use mathlib.Core.Path.{_≡_, refl, sym, ap, _∙_}
 use mathlib.Core.List.{List, [], _∷_, _++_, append-assoc, append-nil, map}
-use Prim.Native.Nat.{ℕ, suc, _+_, _<_, _≤_}
+use Prim.Native.Nat.{ℕ, zero, suc, _+_, _<_, _≤_}
 use native.Mathlib.Omega.{arith}
 use native.Mathlib.Numerals.{add-one}
 use lib.ListN.{length, set, drop, take, getD, length-set, length-map, drop-of-length-le}
@@ -46,3 +46,26 @@ bits-length xs = length-map xs (toBits binary32)
 pub floats-length : (ns : List ℕ) → length (floatsOf ns) ≡ length ns
 unfolding floatsOf
 floats-length ns = length-map ns (ofBits binary32)
+
+-- ---- parts of a list
+
+map-joined : {A B : Type 0} (f : A → B) (xs ys : List A) → map f (xs ++ ys) ≡ map f xs ++ map f ys
+map-joined f [] ys = refl
+map-joined f (x ∷ xs) ys = ap (λ (l : List _). f x ∷ l) (map-joined f xs ys)
+
+map-drop : {A B : Type 0} (f : A → B) (n : ℕ) (xs : List A) → drop n (map f xs) ≡ map f (drop n xs)
+map-drop f zero xs = refl
+map-drop f (suc n) [] = refl
+map-drop f (suc n) (x ∷ xs) = map-drop f n xs
+
+pub floats-joined : (ms ns : List ℕ) → floatsOf (ms ++ ns) ≡ floatsOf ms ++ floatsOf ns
+unfolding floatsOf
+floats-joined ms ns = map-joined (ofBits binary32) ms ns
+
+pub bits-joined : (xs ys : List Float) → bitsOf (xs ++ ys) ≡ bitsOf xs ++ bitsOf ys
+unfolding bitsOf
+bits-joined xs ys = map-joined (toBits binary32) xs ys
+
+pub bits-drop : (n : ℕ) (xs : List Float) → drop n (bitsOf xs) ≡ bitsOf (drop n xs)
+unfolding bitsOf
+bits-drop n xs = map-drop (toBits binary32) n xs

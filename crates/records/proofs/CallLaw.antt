@@ -2,28 +2,31 @@
 use mathlib.Core.Path.{_≡_, refl, sym, ap, _∙_}
 use mathlib.Core.Bool.{Bool, true, false, cond, not}
 use mathlib.Core.List.{List, [], _∷_, _++_, append-assoc}
-use Prim.Native.Nat.{ℕ, _+_, _-_, _*_, _/_, _%_, _<_, _≤_, _^_}
+use Prim.Native.Nat as nat
+use Prim.Native.Nat.{ℕ, suc, _+_, _-_, _*_, _/_, _%_, _<_, _≤_, _^_}
 use native.Mathlib.Omega.{arith}
 use native.Mathlib.Nat.{mod-lt}
 use borrow.Author.Tests.{le-ltb, lt-ltb, le-leb, lt-leb, eqb-true, eqb-false}
 use lib.Dec.{eqb, lit<}
-use lib.ListN.{length, drop, take, replicate, length-append}
-use lib.Seq.{drop-drop}
-use lib.Ieee.{Float}
+use lib.ListN.{length, drop, take, replicate, length-append, length-drop, length-replicate, replicate-append-replicate, take-append-drop}
+use lib.Seq.{drop-drop, length-take-le}
+use lib.Ieee.{Float, toBits, ofBits}
 use Rattle.laws.specs.declared.types.FlightRegime.{FlightRegime}
 use Rattle.laws.specs.declared.types.FlightRegime.the-variants.{Copter, Plane}
 use Rattle.fields.specs.Bytes.{numberAt, bytesOf, putAt}
 use Rattle.fields.specs.Fields.{Field, ones, named, stands, sizeOf, valuesAt, isWritten, bitOf, mapOf, bodyOf, numberFields}
 use Rattle.fields.specs.Numbers.{floatsOf, bitsOf}
 use Rattle.fields.proofs.NumberLaw.{bytes-long}
-use Rattle.fields.proofs.MapLaw.{bits-length}
-use Rattle.fields.proofs.FieldLaw.{rest-is, size-numbers, put-none, put-next, body-long, body-missing}
+use Rattle.fields.proofs.MapLaw.{bits-length, floats-joined, bits-joined, bits-drop}
+use Rattle.fields.proofs.FloatLaw.{floats-none}
+use Rattle.fields.proofs.FieldLaw.{ones-low, ones-below, values-front, body-front, map-front, rest-is, size-numbers, put-none, put-next, body-long, body-missing}
 use Rattle.records.specs.declared.call.ByteRead.{ByteRead}
 use Rattle.records.specs.declared.call.Call.{Call}
 use Rattle.records.specs.declared.call.Call.the-variants.{Prime, Attitude, Rate, Waypoint, AbsoluteAttitude, Land, AbsoluteRate}
 use Rattle.records.specs.declared.call.Parts.{Parts}
+use Rattle.records.specs.declared.call.Record.{Record}
 use Rattle.records.specs.declared.call.ReadCall.the-variants.{Read, Refused}
-use Rattle.records.specs.Call.{callFields, complete, unknown, byteAt, regimeOf, callOf, readCall, regimeByte, commandParts, waypointParts, partsOf, valuesOf, mapOfParts, byteOf, callRecord}
+use Rattle.records.specs.Call.{zero, callFields, complete, unknown, byteAt, regimeOf, callOf, readCall, regimeByte, commandParts, waypointParts, partsOf, valuesOf, mapOfParts, byteOf, callRecord}
 
 pub fields-long : length callFields ≡ 22
 unfolding callFields numberFields
@@ -50,6 +53,28 @@ unfolding sizeOf
 size-is m =
     let quarter : m / 2 / 2 ≡ m / 4 = omega arith in
     rw (fields-are, bit-is m, bit-is (m / 2), size-numbers (replicate 20 0) (m / 2 / 2), quarter) (omega arith)
+
+-- the bits from the third on, counted
+pub counted : (m n : ℕ) → n ≡ ones 64 (m / 4 % 1048576) → n ≡ ones 20 (m / 4)
+counted m n e = e ∙ ones-low 20 44 (m / 4)
+
+-- ---- a map in which no number after the first n stands
+
+module _ (n d : ℕ) (all : n + d ≡ 20) (m : ℕ) (h : m < 2 ^ n) where
+  pub front-ones : ones 20 m ≡ ones n m
+  front-ones = ap (λ (k : ℕ). ones k m) (sym all) ∙ ones-below n d m h
+
+  front-values : (s : List ℕ) → valuesAt Numbers m s ≡ valuesAt (numberFields (replicate n 0)) m s ++ replicate d 0
+  front-values s =
+      let long : length (replicate {A = ℕ} n 0) ≡ n = length-replicate n 0 in
+      let split : replicate {A = ℕ} 20 0 ≡ replicate n 0 ++ replicate d 0 = sym (replicate-append-replicate n d 0 ∙ ap (λ (k : ℕ). replicate k 0) all) in
+      ap (λ (l : List ℕ). valuesAt (numberFields l) m s) split ∙ values-front (replicate n 0) (replicate d 0) m s (rw long h)
+
+  pub front-floats : (s b : List ℕ) (v : List Float) → b ≡ valuesAt (numberFields (replicate n 0)) m s → v ≡ floatsOf b → v ++ replicate d zero ≡ floatsOf (valuesAt Numbers m s)
+  front-floats s b v eb ev = rw (ev, eb, front-values s) (sym (floats-joined (valuesAt (numberFields (replicate n 0)) m s) (replicate d 0) ∙ rw (floats-none d)))
+
+  pub front-body : (v : List ℕ) → length (take n v) ≡ n → bodyOf (numberFields (take n v)) m (take n v) ≡ bodyOf (numberFields v) m v
+  front-body v l = sym (ap (λ (x : List ℕ). bodyOf (numberFields x) m x) (sym (take-append-drop n v)) ∙ body-front (take n v) (drop n v) m (rw l h))
 
 -- ---- fields of one byte
 
@@ -174,6 +199,62 @@ copter-is g h = go (eqb g 1) refl
     go true e = omega (arith, eqb-true g 1 e)
     go false e = let n : g ≡ 1 → ⊥ = eqb-false g 1 e in omega arith
 
+-- a call of another kind than a waypoint has five numbers, and keeps none
+command-numbers : (c : Call) → (partsOf c .kind ≡ 3 → ⊥) → drop 5 (partsOf c .numbers) ≡ replicate 15 zero
+unfolding partsOf commandParts waypointParts
+command-numbers Prime h = refl
+command-numbers (Attitude r dt c) h = refl
+command-numbers (Rate r dt c) h = refl
+command-numbers (Waypoint r dt c s cap) h = absurd (h refl)
+command-numbers (AbsoluteAttitude r dt c) h = refl
+command-numbers (Land r dt) h = refl
+command-numbers (AbsoluteRate r dt c) h = refl
+
+command-keeps : (c : Call) → (partsOf c .kind ≡ 3 → ⊥) → partsOf c .keeps ≡ replicate 20 0
+unfolding partsOf commandParts waypointParts
+command-keeps Prime h = refl
+command-keeps (Attitude r dt c) h = refl
+command-keeps (Rate r dt c) h = refl
+command-keeps (Waypoint r dt c s cap) h = absurd (h refl)
+command-keeps (AbsoluteAttitude r dt c) h = refl
+command-keeps (Land r dt) h = refl
+command-keeps (AbsoluteRate r dt c) h = refl
+
+module _ (c : Call) (p : Parts) (e : p ≡ partsOf c) (h : p .kind ≡ 3 → ⊥) where
+  no-waypoint : partsOf c .kind ≡ 3 → ⊥
+  no-waypoint k = h (ap (λ (q : Parts). q .kind) e ∙ k)
+
+  pub numbers-front : drop 5 (p .numbers) ≡ replicate 15 zero
+  numbers-front = ap (λ (q : Parts). drop 5 (q .numbers)) e ∙ command-numbers c no-waypoint
+
+  pub keeps-none : p .keeps ≡ replicate 20 0
+  keeps-none = ap (λ (q : Parts). q .keeps) e ∙ command-keeps c no-waypoint
+
+-- a list whose elements from the sixth on are fifteen
+pub front-long : {A : Type 0} (v : List A) (z : A) → drop 5 v ≡ replicate 15 z → length (take 5 v) ≡ 5
+front-long v z e =
+    let l : length v - 5 ≡ 15 = sym (length-drop 5 v) ∙ ap length e in
+    length-take-le 5 v (omega arith)
+
+bits-zero : bitsOf (replicate 15 zero) ≡ replicate 15 0
+unfolding bitsOf toBits ofBits
+bits-zero = refl
+
+pub front-bits : (v : List Float) (b : List ℕ) → drop 5 v ≡ replicate 15 zero → b ≡ bitsOf (take 5 v) → b ++ replicate 15 0 ≡ bitsOf v
+front-bits v b e eb = sym (ap bitsOf (sym (take-append-drop 5 v)) ∙ bits-joined (take 5 v) (drop 5 v) ∙ rw (e, bits-zero, eb))
+
+pub bits-after : (v : List Float) (b : List ℕ) → drop 5 v ≡ replicate 15 zero → b ≡ bitsOf v → drop 5 b ≡ replicate 15 0
+bits-after v b e eb = rw (eb, bits-drop 5 v, e, bits-zero)
+
+map-zero : mapOf (numberFields (replicate 15 0)) (replicate 15 0) (replicate 15 0) ≡ 0
+unfolding mapOf numberFields
+map-zero = refl
+
+pub front-map : (v : List ℕ) → drop 5 v ≡ replicate 15 0 → mapOf (numberFields (replicate 5 0)) (replicate (length (take 5 v)) 0) (take 5 v) ≡ mapOf Numbers (replicate 20 0) v
+front-map v e =
+    let l : length (take 5 v) ≡ 5 = front-long v 0 e in
+    rw l (sym (ap (mapOf Numbers (replicate 20 0)) (sym (take-append-drop 5 v)) ∙ map-front (replicate 5 0) (replicate 15 0) (replicate 5 0) (replicate 15 0) (take 5 v) (drop 5 v) refl l (rw e map-zero)))
+
 pub map-is : (p : Parts) (v : List ℕ) (r : ℕ) → v ≡ bitsOf (p .numbers) → r ≡ 1 + 2 * (bitOf (isWritten 0 (p .regime) 1) + 2 * mapOf Numbers (p .keeps) v) → r ≡ mapOfParts p
 unfolding mapOfParts valuesOf mapOf
 map-is p v r ev er = er ∙ rw (fields-are, ev)
@@ -218,14 +299,27 @@ module _ (p₀ p₁ p₂ p₃ p₄ : List ℕ) (m k g second third : ℕ) (v : L
       append-assoc (bytesOf 4 m ++ byteOf m k) (byteOf (m / 2) g) _ ∙ append-assoc (bytesOf 4 m) (byteOf m k) _ ∙ ap (λ (x : List ℕ). bytesOf 4 m ++ x) (sym (body-is m k g v l)) in
       q₄ ∙ ap (putAt p₀ 0) order
 
--- what is written is the call's record
-module _ (c : Call) (p : Parts) (v : List ℕ) (m : ℕ) (ep : p ≡ partsOf c) (ev : v ≡ bitsOf (p .numbers)) (em : m ≡ mapOfParts p) where
-  pub record-is : bytesOf 4 m ++ bodyOf callFields m (p .kind ∷ p .regime ∷ v) ≡ callRecord c
-  unfolding callRecord valuesOf
-  record-is = rw (em, ev, ep)
+-- the map of a record and its values are the call's
+abbrev pub IsRecord : Call → Record → Type 0
+IsRecord c r = (r .map ≡ mapOfParts (partsOf c)) × (r .kind ≡ partsOf c .kind) × (r .regime ≡ partsOf c .regime) × (r .numbers ≡ bitsOf (partsOf c .numbers))
 
-  pub record-long : (n : ℕ) → n ≡ sizeOf callFields m → 4 + n ≡ length (callRecord c)
+pub is-record : (c : Call) (p : Parts) (v : List ℕ) (m : ℕ) → p ≡ partsOf c → v ≡ bitsOf (p .numbers) → m ≡ 1 + 2 * (bitOf (isWritten 0 (p .regime) 1) + 2 * mapOf Numbers (p .keeps) v)
+    → IsRecord c (record { map = m; kind = p .kind; regime = p .regime; numbers = v })
+is-record c p v m ep ev em = (map-is p v m ev em ∙ ap mapOfParts ep, ap (λ (q : Parts). q .kind) ep, ap (λ (q : Parts). q .regime) ep, ev ∙ ap (λ (q : Parts). bitsOf (q .numbers)) ep)
+
+pub is-command : (c : Call) (p : Parts) (v : List ℕ) (m : ℕ) → p ≡ partsOf c → (p .kind ≡ 3 → ⊥) → v ≡ bitsOf (p .numbers) → m ≡ 1 + 2 * (bitOf (isWritten 0 (p .regime) 1) + 2 * mapOf Numbers (replicate 20 0) v)
+    → IsRecord c (record { map = m; kind = p .kind; regime = p .regime; numbers = v })
+is-command c p v m ep h ev em = is-record c p v m ep ev (em ∙ sym (rw (keeps-none c p ep h)))
+
+-- what is written is the call's record
+module _ (c : Call) (r : Record) (e : IsRecord c r) where
+  pub record-is : bytesOf 4 (r .map) ++ bodyOf callFields (r .map) (r .kind ∷ r .regime ∷ r .numbers) ≡ callRecord c
+  unfolding callRecord valuesOf
+  record-is = rw (e .0, e .1, e .2, e .3)
+
+  pub record-long : (n : ℕ) → n ≡ sizeOf callFields (r .map) → 4 + n ≡ length (callRecord c)
   record-long n en =
-      let long : length (p .kind ∷ p .regime ∷ v) ≡ length callFields = rw (ev, bits-length (p .numbers), ep, parts-long c, fields-long) in
-      let body : length (bodyOf callFields m (p .kind ∷ p .regime ∷ v)) ≡ sizeOf callFields m = body-long callFields (p .kind ∷ p .regime ∷ v) m long in
-      sym (ap length (sym record-is) ∙ length-append (bytesOf 4 m) (bodyOf callFields m (p .kind ∷ p .regime ∷ v)) ∙ omega (arith, bytes-long 4 m, body))
+      let values = r .kind ∷ r .regime ∷ r .numbers in
+      let long : length values ≡ length callFields = rw (e .3, bits-length (partsOf c .numbers), parts-long c, fields-long) in
+      let body : length (bodyOf callFields (r .map) values) ≡ sizeOf callFields (r .map) = body-long callFields values (r .map) long in
+      sym (ap length (sym record-is) ∙ length-append (bytesOf 4 (r .map)) (bodyOf callFields (r .map) values) ∙ omega (arith, bytes-long 4 (r .map), body))

@@ -15,7 +15,7 @@ use Rattle.fields.specs.Numbers.{floatsOf, bitsOf}
 use Rattle.records.specs.Config.{configOf, numbersOf, configFields, configMap, configRecord, readConfig}
 use Rattle.records.specs.declared.config.ReadConfig.the-variants.{Read, Refused}
 use Rattle.fields.proofs.NumberLaw.{bytes-long}
-use Rattle.fields.proofs.FieldLaw.{rest-is, size-numbers, body-numbers, body-missing}
+use Rattle.fields.proofs.FieldLaw.{ones-below, rest-is, size-numbers, body-numbers, body-missing}
 
 pub bits-long : (c : PlaneGuidanceConfig) → length (bitsOf (numbersOf c)) ≡ 33
 unfolding bitsOf numbersOf
@@ -31,6 +31,10 @@ fields-long = refl
 
 pub size-is : (m : ℕ) → sizeOf configFields m ≡ 4 * ones 33 m
 size-is m = rw fields-are (size-numbers (bitsOf (numbersOf default)) m ∙ rw (bits-long default))
+
+-- a map with no unnamed bit, counted
+pub counted : (m n : ℕ) → m < 8589934592 → n ≡ ones 64 m → n ≡ ones 33 m
+counted m n h e = e ∙ ones-below 33 31 m h
 
 pub named-below : (m : ℕ) → m < 8589934592 → named configFields m ≡ true
 named-below m h = rw fields-long (lt-ltb m 8589934592 h)

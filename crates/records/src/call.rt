@@ -4,11 +4,12 @@ use fields::Cursor;
 use fields::Written;
 use fields::bytes::read_number;
 use fields::bytes::write_number;
+use fields::changed;
 use fields::count;
 use fields::map_of;
 use fields::numbers::bits;
-use fields::numbers::floats;
-use fields::read_values;
+use fields::numbers::read_floats;
+use fields::numbers::read_group;
 use fields::write_values;
 use laws::types::AbsoluteAttitudeCommand;
 use laws::types::AbsoluteRateCommand;
@@ -22,7 +23,7 @@ use laws::types::VehicleState;
 use laws::types::WaypointCommand;
 ghost use mathlib.Core.Path.{_≡_};
 ghost use mathlib.Core.List.{_∷_, _++_};
-ghost use Prim.Native.Nat.{_≤_, _<_, _+_, _*_, _/_, _%_};
+ghost use Prim.Native.Nat.{_≤_, _<_, _+_, _*_, _/_, _%_, _^_};
 ghost use lib.ListN.{length, drop, replicate};
 ghost use Rattle.fields.specs.Bytes.{numberAt, bytesOf, putAt};
 ghost use Rattle.fields.specs.Fields.{ones, sizeOf, valuesAt, isWritten, bitOf, mapOf, bodyOf, numberFields};
@@ -93,7 +94,7 @@ fn fields_size(map: u64) -> usize
 {
     let kind = (map % 2) as usize;
     let regime = (map / 2 % 2) as usize;
-    kind + regime + 4 * count(map / 4, 20)
+    kind + regime + 4 * count(map / 4 % 1048576)
 }
 
 // A field of one byte that was read or is missing, and where the next one starts.
@@ -190,13 +191,14 @@ fn state_of(map: u64, v: [f32; 20]) -> VehicleState
 fn call_of(kind: u64, regime: FlightRegime, map: u64, v: [f32; 20]) -> Call
     ensures { λ r. ⌜ r ≡ spec.callOf kind regime map v ⌝ }
 {
+    let dt = v[0];
     if kind == 0 {
         return Call::Prime;
     }
     if kind == 1 {
         return Call::Attitude {
             regime,
-            dt: v[0],
+            dt,
             command: AttitudeCommand {
                 throttle: v[3],
                 roll: v[1],
@@ -207,7 +209,7 @@ fn call_of(kind: u64, regime: FlightRegime, map: u64, v: [f32; 20]) -> Call
     if kind == 2 {
         return Call::Rate {
             regime,
-            dt: v[0],
+            dt,
             command: RateCommand {
                 throttle: v[4],
                 roll_rate: v[1],
@@ -222,7 +224,7 @@ fn call_of(kind: u64, regime: FlightRegime, map: u64, v: [f32; 20]) -> Call
         let cap = option_of(map / 2097152, v[19]);
         return Call::Waypoint {
             regime,
-            dt: v[0],
+            dt,
             command,
             state,
             cap,
@@ -231,7 +233,7 @@ fn call_of(kind: u64, regime: FlightRegime, map: u64, v: [f32; 20]) -> Call
     if kind == 4 {
         return Call::AbsoluteAttitude {
             regime,
-            dt: v[0],
+            dt,
             command: AbsoluteAttitudeCommand {
                 roll_rad: v[1],
                 pitch_rad: v[2],
@@ -240,11 +242,11 @@ fn call_of(kind: u64, regime: FlightRegime, map: u64, v: [f32; 20]) -> Call
         };
     }
     if kind == 5 {
-        return Call::Land { regime, dt: v[0] };
+        return Call::Land { regime, dt };
     }
     Call::AbsoluteRate {
         regime,
-        dt: v[0],
+        dt,
         command: AbsoluteRateCommand {
             roll_radps: v[1],
             pitch_radps: v[2],
@@ -254,16 +256,53 @@ fn call_of(kind: u64, regime: FlightRegime, map: u64, v: [f32; 20]) -> Call
     }
 }
 
-// Reads the numbers of bits 2 to 21; map has them from its lowest bit on.
-fn read_floats(s: &[u8], from: Cursor, map: u64) -> [f32; 20]
+// Reads the number of bit 2, where none after it stands.
+fn read_step(s: &[u8], from: Cursor, map: u64) -> [f32; 20]
+    requires { ⌜ (map < 2) × (from .at + 4 * ones 20 map ≤ length (now s)) ⌝ }
+    ensures { λ r. ⌜ r ≡ floatsOf (valuesAt (numberFields (replicate 20 0)) map (drop (from .at) (now (s .entry)))) ⌝ }
+{
+    let mut v = [0.0f32; 20];
+    read_floats(s, from, map, &mut v[..1]);
+    v
+}
+
+// Reads the numbers of bits 2 to 6, where none after them stands.
+fn read_command(s: &[u8], from: Cursor, map: u64) -> [f32; 20]
+    requires { ⌜ (map < 32) × (from .at + 4 * ones 20 map ≤ length (now s)) ⌝ }
+    ensures { λ r. ⌜ r ≡ floatsOf (valuesAt (numberFields (replicate 20 0)) map (drop (from .at) (now (s .entry)))) ⌝ }
+{
+    let mut v = [0.0f32; 20];
+    read_floats(s, from, map, &mut v[..5]);
+    v
+}
+
+// Reads the numbers of bits 2 to 21 by groups, which as a rule stand whole: the command's, point, leg, altitude to roll, and
+// the two that may be absent.
+fn read_waypoint(s: &[u8], from: Cursor, map: u64) -> [f32; 20]
     requires { ⌜ from .at + 4 * ones 20 map ≤ length (now s) ⌝ }
     ensures { λ r. ⌜ r ≡ floatsOf (valuesAt (numberFields (replicate 20 0)) map (drop (from .at) (now (s .entry)))) ⌝ }
 {
-    let mut b = [0u32; 20];
-    read_values(s, from, map, &mut b);
     let mut v = [0.0f32; 20];
-    floats(&b, &mut v);
+    let second = read_floats(s, from, map % 32, &mut v[..5]);
+    let third = read_group(s, second, map / 32 % 4, 3, &mut v[5..7]);
+    let fourth = read_group(s, third, map / 128 % 4, 3, &mut v[7..9]);
+    let fifth = read_group(s, fourth, map / 512 % 512, 511, &mut v[9..18]);
+    read_floats(s, fifth, map / 262144 % 4, &mut v[18..20]);
     v
+}
+
+// Reads the numbers of bits 2 to 21; map has them from its lowest bit on.
+fn read_numbers(s: &[u8], from: Cursor, map: u64) -> [f32; 20]
+    requires { ⌜ from .at + 4 * ones 20 map ≤ length (now s) ⌝ }
+    ensures { λ r. ⌜ r ≡ floatsOf (valuesAt (numberFields (replicate 20 0)) map (drop (from .at) (now (s .entry)))) ⌝ }
+{
+    if map < 2 {
+        return read_step(s, from, map);
+    }
+    if map < 32 {
+        return read_command(s, from, map);
+    }
+    read_waypoint(s, from, map)
 }
 
 pub fn read_call(s: &[u8], at: usize) -> ReadCall
@@ -291,7 +330,7 @@ pub fn read_call(s: &[u8], at: usize) -> ReadCall
     if 1 < regime.value {
         return ReadCall::Refused(7);
     }
-    let v = read_floats(s, regime.rest, map / 4);
+    let v = read_numbers(s, regime.rest, map / 4);
     let call = call_of(kind.value, regime_of(regime.value), map, v);
     ReadCall::Read {
         call,
@@ -525,15 +564,79 @@ fn bits_of(v: [f32; 20]) -> [u32; 20]
     b
 }
 
-// The map of what is written: the kind, a regime that is not plane, and the numbers that missing would not give.
-fn map_of_parts(regime: u8, keeps: [u8; 20], v: [u32; 20]) -> u64
+// The same of a command that is no waypoint: its numbers from the sixth on are +0.
+fn command_bits(v: [f32; 20]) -> [u32; 20]
+    requires { ⌜ drop 5 v ≡ replicate 15 spec.zero ⌝ }
+    ensures { λ r. ⌜ r ≡ bitsOf v ⌝ }
+{
+    let mut b = [0u32; 20];
+    bits(&v[..5], &mut b[..5]);
+    b
+}
+
+// The map of what is written: the kind, a regime that is not plane, and the numbers of a map.
+fn whole_map(regime: u8, numbers: u64) -> u64
+    requires { ⌜ (regime ≤ 1) × (numbers < 2 ^ 40) ⌝ }
+    ensures { λ r. ⌜ r ≡ 1 + 2 * (bitOf (isWritten 0 regime 1) + 2 * numbers) ⌝ }
+{
+    let copter = (1 - regime) as u64;
+    1 + 2 * (copter + 2 * numbers)
+}
+
+// The map of a waypoint's record: the numbers that are kept or that missing would not give.
+fn waypoint_map(regime: u8, keeps: [u8; 20], v: [u32; 20]) -> u64
     requires { ⌜ regime ≤ 1 ⌝ }
     ensures { λ r. ⌜ r ≡ 1 + 2 * (bitOf (isWritten 0 regime 1) + 2 * mapOf (numberFields (replicate 20 0)) keeps v) ⌝ }
 {
     let missing = [0u32; 20];
     let numbers = map_of(&keeps, &v, &missing);
-    let copter = (1 - regime) as u64;
-    1 + 2 * (copter + 2 * numbers)
+    whole_map(regime, numbers)
+}
+
+// The map of another command's record: of its first five numbers, those that missing would not give.
+fn command_map(regime: u8, v: [u32; 20]) -> u64
+    requires { ⌜ (regime ≤ 1) × (drop 5 v ≡ replicate 15 0) ⌝ }
+    ensures { λ r. ⌜ r ≡ 1 + 2 * (bitOf (isWritten 0 regime 1) + 2 * mapOf (numberFields (replicate 20 0)) (replicate 20 0) v) ⌝ }
+{
+    let missing = [0u32; 5];
+    let numbers = changed(&v[..5], &missing);
+    whole_map(regime, numbers)
+}
+
+// The map of a record and the values of its fields.
+struct Record {
+    map: u64,
+    kind: u8,
+    regime: u8,
+    numbers: [u32; 20],
+}
+
+fn record_of(call: Call) -> Record
+    ensures { λ r. ⌜ (r .map ≡ spec.mapOfParts (spec.partsOf call)) × (r .kind ≡ spec.partsOf call .kind) × (r .regime ≡ spec.partsOf call .regime) × (r .numbers ≡ bitsOf (spec.partsOf call .numbers)) ⌝ }
+{
+    let parts = parts_of(call);
+    let kind = parts.kind;
+    let regime = parts.regime;
+    let numbers = parts.numbers;
+    if kind == 3 {
+        let keeps = parts.keeps;
+        let v = bits_of(numbers);
+        let map = waypoint_map(regime, keeps, v);
+        return Record {
+            map,
+            kind,
+            regime,
+            numbers: v,
+        };
+    }
+    let v = command_bits(numbers);
+    let map = command_map(regime, v);
+    Record {
+        map,
+        kind,
+        regime,
+        numbers: v,
+    }
 }
 
 // Writes a field of one byte whose bit stands; the place after it.
@@ -548,6 +651,18 @@ fn write_byte(part: &mut [u8], at: usize, stands: u64, value: u8) -> usize
     at
 }
 
+// Writes the numbers of bits 2 to 21 that stand; map has them from its lowest bit on.
+fn write_numbers(part: &mut [u8], from: usize, map: u64, v: &[u32])
+    requires { ⌜ (from + 4 * ones 20 map ≤ length (now part)) × (length (now v) ≡ 20) ⌝ }
+    ensures { λ _. ⌜ now (part .exit) ≡ putAt (now (part .entry)) from (bodyOf (numberFields (now (v .entry))) map (now (v .entry))) ⌝ }
+{
+    if map < 32 {
+        write_values(part, from, map, &v[..5]);
+    } else {
+        write_values(part, from, map, v);
+    }
+}
+
 // Writes the map and the fields that stand in it.
 fn write_fields(part: &mut [u8], map: u64, kind: u8, regime: u8, v: &[u32])
     requires { ⌜ (4 + sizeOf spec.callFields map ≤ length (now part)) × (length (now v) ≡ 20) ⌝ }
@@ -556,19 +671,15 @@ fn write_fields(part: &mut [u8], map: u64, kind: u8, regime: u8, v: &[u32])
     write_number(part, 4, map);
     let second = write_byte(part, 4, map, kind);
     let third = write_byte(part, second, map / 2, regime);
-    write_values(part, third, map / 4, v);
+    write_numbers(part, third, map / 4, v);
 }
 
 pub fn write_call(out: &mut [u8], at: usize, call: Call) -> Written
     ensures { λ r. ⌜ (r ≡ answerOf (now (out .entry)) at (spec.callRecord call)) × (now (out .exit) ≡ bufferOf (now (out .entry)) at (spec.callRecord call)) ⌝ }
 {
-    let parts = parts_of(call);
-    let kind = parts.kind;
-    let regime = parts.regime;
-    let keeps = parts.keeps;
-    let numbers = parts.numbers;
-    let v = bits_of(numbers);
-    let map = map_of_parts(regime, keeps, v);
+    let r = record_of(call);
+    let map = r.map;
+    let numbers = r.numbers;
     let size = 4 + fields_size(map);
     if out.len() < at {
         return Written::Refused(8);
@@ -576,6 +687,6 @@ pub fn write_call(out: &mut [u8], at: usize, call: Call) -> Written
     if out.len() - at < size {
         return Written::Refused(8);
     }
-    write_fields(&mut out[at..], map, kind, regime, &v);
+    write_fields(&mut out[at..], map, r.kind, r.regime, &numbers);
     Written::Next(at + size)
 }

@@ -3,8 +3,8 @@ use fields::Cursor;
 use fields::Written;
 use fields::bytes::read_number;
 use fields::bytes::write_number;
+use fields::changed;
 use fields::count;
-use fields::map_of;
 use fields::numbers::bits;
 use fields::numbers::floats;
 use fields::read_values;
@@ -33,10 +33,35 @@ pub enum ReadConfig {
     Refused(u8),
 }
 
+// The energy law's numbers of the 33, fields 15 to 30.
+fn tecs_of(v: [f32; 33]) -> TecsConfig
+    ensures { λ r. ⌜ r ≡ configOf v .tecs ⌝ }
+{
+    TecsConfig {
+        time_constant_s: v[14],
+        max_climb_mps: v[15],
+        min_sink_mps: v[16],
+        max_sink_mps: v[17],
+        thrust_damping: v[18],
+        integrator_gain: v[19],
+        pitch_damping: v[20],
+        pitch_integrator_gain: v[21],
+        speed_weight: v[22],
+        roll_compensation: v[23],
+        min_airspeed_mps: v[24],
+        max_airspeed_mps: v[25],
+        underspeed_share: v[26],
+        height_demand_time_constant_s: v[27],
+        airspeed_rate_time_constant_s: v[28],
+        kinetic_rate_high_pass_s: v[29],
+    }
+}
+
 // The configuration of 33 numbers.
 fn config_of(v: [f32; 33]) -> PlaneGuidanceConfig
     ensures { λ r. ⌜ r ≡ configOf v ⌝ }
 {
+    let tecs = tecs_of(v);
     PlaneGuidanceConfig {
         max_bank_rad: v[0],
         max_pitch_up_rad: v[1],
@@ -54,24 +79,7 @@ fn config_of(v: [f32; 33]) -> PlaneGuidanceConfig
         altitude_p: v[11],
         altitude_i: v[12],
         altitude_max_integral: v[13],
-        tecs: TecsConfig {
-            time_constant_s: v[14],
-            max_climb_mps: v[15],
-            min_sink_mps: v[16],
-            max_sink_mps: v[17],
-            thrust_damping: v[18],
-            integrator_gain: v[19],
-            pitch_damping: v[20],
-            pitch_integrator_gain: v[21],
-            speed_weight: v[22],
-            roll_compensation: v[23],
-            min_airspeed_mps: v[24],
-            max_airspeed_mps: v[25],
-            underspeed_share: v[26],
-            height_demand_time_constant_s: v[27],
-            airspeed_rate_time_constant_s: v[28],
-            kinetic_rate_high_pass_s: v[29],
-        },
+        tecs,
         min_thrust: v[30],
         max_thrust: v[31],
         climb_thrust_per_rad: v[32],
@@ -158,7 +166,7 @@ pub fn read_config(s: &[u8], at: usize) -> ReadConfig
     if 8589934592 <= map {
         return ReadConfig::Refused(6);
     }
-    let size = 5 + 4 * count(map, 33);
+    let size = 5 + 4 * count(map);
     if s.len() - at < size {
         return ReadConfig::Refused(5);
     }
@@ -174,8 +182,7 @@ fn config_map(v: [u32; 33]) -> u64
     ensures { λ r. ⌜ (r ≡ mapOf configFields (replicate 33 0) v) × (r < 8589934592) ⌝ }
 {
     let missing = default_bits();
-    let keep = [0u8; 33];
-    map_of(&keep, &v, &missing)
+    changed(&v, &missing)
 }
 
 pub fn write_config(out: &mut [u8], at: usize, c: PlaneGuidanceConfig) -> Written
@@ -183,7 +190,7 @@ pub fn write_config(out: &mut [u8], at: usize, c: PlaneGuidanceConfig) -> Writte
 {
     let v = bits_of(c);
     let map = config_map(v);
-    let size = 5 + 4 * count(map, 33);
+    let size = 5 + 4 * count(map);
     if out.len() < at {
         return Written::Refused(8);
     }

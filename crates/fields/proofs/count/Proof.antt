@@ -1,34 +1,15 @@
--- `count` meets its contract: sum is the count of the i lowest bits. Assumes nothing.
-use Prim.Native.Nat.{_-_}
+-- `count` meets its contract: a map has 64 bits. Assumes nothing.
 use native.Mathlib.Omega.{arith}
-use Rattle.fields.proofs.FieldLaw.{Counting, count-starts, count-below, count-turn, count-done}
+use lib.Count as all
+use Rattle.fields.proofs.FieldLaw.{ones-all}
 use Rattle.fields.proofs.count.Statement.{statement}
 use Rattle.fields.proofs.count.Tie as tie
 
-abbrev Inv-loop : tie.InvT-loop
-Inv-loop map n sum₀ m₀ i₀ sum m i = Counting map n sum m i
+cast-result : tie.Need-cast-result
+cast-result c = omega (arith, all.ones-le 64 (c .args .map) (c .fits .map .fits))
 
-abbrev μ-loop : tie.MeasureT-loop
-μ-loop map n sum₀ m₀ i₀ sum m i = n - i
-
-loop-holds : tie.Need-loop-holds Inv-loop μ-loop
-loop-holds c = count-starts _ _
-
-add-sum : tie.Need-add-sum Inv-loop μ-loop
-add-sum c = omega (arith, count-below (c .before .loop .inv), c .before .before .pre)
-
-add-i : tie.Need-add-i Inv-loop μ-loop
-add-i c = omega arith
-
-loop-less : tie.Need-loop-less Inv-loop μ-loop
-loop-less c = omega arith
-
-loop-again : tie.Need-loop-again Inv-loop μ-loop
-loop-again c = count-turn (c .before .loop .inv) (c .loop-test .taken)
-
-returns : tie.Need-returns Inv-loop μ-loop
-returns c = count-done (c .before .loop .inv) (c .loop-test .left)
+returns : tie.Need-returns
+returns c = (ones-all 64 (c .args .map) (c .fits .map .fits), all.ones-le 64 (c .args .map) (c .fits .map .fits))
 
 pub count-spec : {M : Type 1} → statement M
-count-spec =
-    tie.close (tie.spec Inv-loop μ-loop loop-holds add-sum add-i loop-less loop-again returns)
+count-spec = tie.close (tie.spec cast-result returns)

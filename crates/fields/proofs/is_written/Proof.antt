@@ -1,5 +1,7 @@
--- `is_written` meets its contract, by its two tests. Assumes nothing.
+-- `is_written` meets its contract, by its test. Assumes nothing.
+use mathlib.Core.Path.{_∙_}
 use native.Mathlib.Omega.{arith}
+use borrow.Author.Needs.{needs}
 use borrow.Author.Tests.{eq-eqb, ne-eqb}
 use Rattle.fields.proofs.is_written.Statement.{statement}
 use Rattle.fields.proofs.is_written.Tie as tie
@@ -7,11 +9,11 @@ use Rattle.fields.proofs.is_written.Tie as tie
 returns : tie.Need-returns
 returns c = (rw (eq-eqb _ _ (c .if1 .taken)), omega arith)
 
-returns-2 : tie.Need-returns-2
-returns-2 c = (rw (ne-eqb _ _ (c .before .if1 .left), eq-eqb _ _ (c .if2 .taken)), omega arith)
+differs-requires : tie.Need-differs-requires
+differs-requires c κs = search needs
 
-returns-3 : tie.Need-returns-3
-returns-3 c = (rw (ne-eqb _ _ (c .before .if1 .left), ne-eqb _ _ (c .if2 .left)), omega arith)
+returns-2 : tie.Need-returns-2
+returns-2 c = (c .differs .ensures .0 ∙ rw (ne-eqb _ _ (c .before .if1 .left)), c .differs .ensures .1)
 
 pub is-written-spec : {M : Type 1} → statement M
-is-written-spec = tie.close (tie.spec returns returns-2 returns-3)
+is-written-spec = tie.close (tie.spec returns differs-requires returns-2)

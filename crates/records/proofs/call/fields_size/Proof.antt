@@ -1,7 +1,9 @@
 -- `call::fields_size` meets its contract. Assumes nothing.
+use Prim.Native.Nat.{_/_}
 use native.Mathlib.Omega.{arith}
 use borrow.Author.Needs.{needs}
-use Rattle.records.proofs.CallLaw.{size-is}
+use Rattle.fields.proofs.FieldLaw.{ones-le}
+use Rattle.records.proofs.CallLaw.{counted, size-is}
 use Rattle.records.proofs.call.fields_size.Statement.{statement}
 use Rattle.records.proofs.call.fields_size.Tie as tie
 
@@ -18,7 +20,10 @@ add-result-2 : tie.Need-add-result-2
 add-result-2 c = search needs
 
 returns : tie.Need-returns
-returns c = (rw (size-is (c .before .args .map)) (omega (arith, c .count .ensures .0)), omega (arith, c .count .ensures .1))
+returns c =
+    let m = c .before .args .map in
+    let n = counted m _ (c .count .ensures .0) in
+    (rw (size-is m) (omega (arith, n)), omega (arith, n, ones-le 20 (m / 4)))
 
 pub fields-size-spec : {M : Type 1} → statement M
 fields-size-spec = tie.close (tie.spec add-result count-requires mul-result add-result-2 returns)

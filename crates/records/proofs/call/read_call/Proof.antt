@@ -61,8 +61,8 @@ returns-5 c = kind-above _ _ (omega (arith, c .before .before .before .before .b
 returns-6 : tie.Need-returns-6
 returns-6 c = regime-above _ _ (omega (arith, c .before .before .before .before .before .before .before .before .before .before .before .before .if2 .left)) _ (c .before .before .before .before .before .before .before .before .before .before .read-number .ensures .0) _ (c .before .before .before .before .before .before .before .before .before .is-complete .ensures) (not-false _ (c .before .before .before .before .before .before .before .before .if3 .left)) _ (c .before .before .before .before .before .before .before .fields-size .ensures .0) (omega (arith, c .before .before .before .before .before .before .if4 .left)) _ _ (c .before .before .before .before .before .read-byte .ensures) (c .before .before .before .before .read-byte2 .ensures) (c .before .before .if5 .left) (c .if6 .taken)
 
-read-floats-requires : tie.Need-read-floats-requires
-read-floats-requires c κs = numbers-room _ _ (omega (arith, c .before .before .before .before .before .before .before .before .before .before .before .before .if2 .left)) _ (c .before .before .before .before .before .before .before .before .before .before .read-number .ensures .0) _ (c .before .before .before .before .before .before .before .before .before .is-complete .ensures) (not-false _ (c .before .before .before .before .before .before .before .before .if3 .left)) _ (c .before .before .before .before .before .before .before .fields-size .ensures .0) (omega (arith, c .before .before .before .before .before .before .if4 .left)) _ _ (c .before .before .before .before .before .read-byte .ensures) (c .before .before .before .before .read-byte2 .ensures)
+read-numbers-requires : tie.Need-read-numbers-requires
+read-numbers-requires c κs = numbers-room _ _ (omega (arith, c .before .before .before .before .before .before .before .before .before .before .before .before .if2 .left)) _ (c .before .before .before .before .before .before .before .before .before .before .read-number .ensures .0) _ (c .before .before .before .before .before .before .before .before .before .is-complete .ensures) (not-false _ (c .before .before .before .before .before .before .before .before .if3 .left)) _ (c .before .before .before .before .before .before .before .fields-size .ensures .0) (omega (arith, c .before .before .before .before .before .before .if4 .left)) _ _ (c .before .before .before .before .before .read-byte .ensures) (c .before .before .before .before .read-byte2 .ensures)
 
 regime-of-requires : tie.Need-regime-of-requires
 regime-of-requires c κs = search needs
@@ -74,7 +74,7 @@ add-t9 : tie.Need-add-t9
 add-t9 c = omega (arith, c .before .before .before .before .before .before .before .before .before .if4 .left, c .before .before .before .before .before .before .before .before .before .before .before .before .before .before .before .before .if1 .left, c .before .before .before .before .before .before .before .before .before .before .before .before .before .before .before .before .before .before .good)
 
 returns-7 : tie.Need-returns-7
-returns-7 c = whole _ _ (omega (arith, c .before .before .before .before .before .before .before .before .before .before .before .before .before .before .before .if2 .left)) _ (c .before .before .before .before .before .before .before .before .before .before .before .before .before .read-number .ensures .0) _ (c .before .before .before .before .before .before .before .before .before .before .before .before .is-complete .ensures) (not-false _ (c .before .before .before .before .before .before .before .before .before .before .before .if3 .left)) _ (c .before .before .before .before .before .before .before .before .before .before .fields-size .ensures .0) (omega (arith, c .before .before .before .before .before .before .before .before .before .if4 .left)) _ _ (c .before .before .before .before .before .before .before .before .read-byte .ensures) (c .before .before .before .before .before .before .before .read-byte2 .ensures) (c .before .before .before .before .before .if5 .left) (c .before .before .before .if6 .left) _ _ _ (c .before .before .read-floats .ensures) (c .before .regime-of .ensures) (c .call-of .ensures)
+returns-7 c = whole _ _ (omega (arith, c .before .before .before .before .before .before .before .before .before .before .before .before .before .before .before .if2 .left)) _ (c .before .before .before .before .before .before .before .before .before .before .before .before .before .read-number .ensures .0) _ (c .before .before .before .before .before .before .before .before .before .before .before .before .is-complete .ensures) (not-false _ (c .before .before .before .before .before .before .before .before .before .before .before .if3 .left)) _ (c .before .before .before .before .before .before .before .before .before .before .fields-size .ensures .0) (omega (arith, c .before .before .before .before .before .before .before .before .before .if4 .left)) _ _ (c .before .before .before .before .before .before .before .before .read-byte .ensures) (c .before .before .before .before .before .before .before .read-byte2 .ensures) (c .before .before .before .before .before .if5 .left) (c .before .before .before .if6 .left) _ _ _ (c .before .before .read-numbers .ensures) (c .before .regime-of .ensures) (c .call-of .ensures)
 
 pub read-call-spec : {M : Type 1} → statement M
 read-call-spec =
@@ -98,7 +98,7 @@ read-call-spec =
     read-byte-requires-2
     returns-5
     returns-6
-    read-floats-requires
+    read-numbers-requires
     regime-of-requires
     call-of-requires
     add-t9

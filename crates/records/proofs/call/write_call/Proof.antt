@@ -4,18 +4,12 @@ use native.Mathlib.Omega.{arith}
 use borrow.Author.Needs.{needs}
 use Rattle.fields.proofs.WriteLaw.{refused, accepted}
 use Rattle.records.specs.Call.{callRecord}
-use Rattle.records.proofs.CallLaw.{regime-le, map-is, record-is, record-long}
+use Rattle.records.proofs.CallLaw.{record-is, record-long}
 use Rattle.records.proofs.call.write_call.Statement.{statement}
 use Rattle.records.proofs.call.write_call.Tie as tie
 
-parts-of-requires : tie.Need-parts-of-requires
-parts-of-requires c κs = search needs
-
-bits-of-requires : tie.Need-bits-of-requires
-bits-of-requires c κs = search needs
-
-map-of-parts-requires : tie.Need-map-of-parts-requires
-map-of-parts-requires c κs = rw (c .before .before .before .parts-of .ensures) (regime-le (c .before .before .before .before .before .args .call))
+record-of-requires : tie.Need-record-of-requires
+record-of-requires c κs = search needs
 
 fields-size-requires : tie.Need-fields-size-requires
 fields-size-requires c κs = search needs
@@ -24,19 +18,13 @@ add-size : tie.Need-add-size
 add-size c = search needs
 
 returns : tie.Need-returns
-returns c =
-    let p = c .before .before .before .before .before .before .parts-of .result in
-    let m = map-is p _ _ (c .before .before .before .bits-of .ensures) (c .before .before .map-of-parts .ensures) in
-    refused _ _ (callRecord (c .before .before .before .before .before .before .before .before .args .call)) _ (record-long (c .before .before .before .before .before .before .before .before .args .call) p _ _ (c .before .before .before .before .before .before .parts-of .ensures) (c .before .before .before .bits-of .ensures) m _ (c .before .fields-size .ensures .0)) (omega (arith, c .if1 .taken))
+returns c = refused _ _ (callRecord (c .before .before .before .before .before .args .call)) _ (record-long (c .before .before .before .before .before .args .call) (c .before .before .before .record-of .result) (c .before .before .before .record-of .ensures) _ (c .before .fields-size .ensures .0)) (omega (arith, c .if1 .taken))
 
 sub-if2 : tie.Need-sub-if2
 sub-if2 c = search needs
 
 returns-2 : tie.Need-returns-2
-returns-2 c =
-    let p = c .before .before .before .before .before .before .before .parts-of .result in
-    let m = map-is p _ _ (c .before .before .before .before .bits-of .ensures) (c .before .before .before .map-of-parts .ensures) in
-    refused _ _ (callRecord (c .before .before .before .before .before .before .before .before .before .args .call)) _ (record-long (c .before .before .before .before .before .before .before .before .before .args .call) p _ _ (c .before .before .before .before .before .before .before .parts-of .ensures) (c .before .before .before .before .bits-of .ensures) m _ (c .before .before .fields-size .ensures .0)) (omega (arith, c .if2 .taken))
+returns-2 c = refused _ _ (callRecord (c .before .before .before .before .before .before .args .call)) _ (record-long (c .before .before .before .before .before .before .args .call) (c .before .before .before .before .record-of .result) (c .before .before .before .before .record-of .ensures) _ (c .before .before .fields-size .ensures .0)) (omega (arith, c .if2 .taken))
 
 sub-write-fields : tie.Need-sub-write-fields
 sub-write-fields c = search needs
@@ -53,25 +41,23 @@ slice-aggregate-write-fields c = search needs
 write-fields-requires : tie.Need-write-fields-requires
 write-fields-requires c κs = search needs
 
-add-t15 : tie.Need-add-t15
-add-t15 c = search needs
+add-t10 : tie.Need-add-t10
+add-t10 c = search needs
 
 same-length : tie.Need-same-length
 same-length c = search needs
 
 returns-3 : tie.Need-returns-3
 returns-3 c =
-    let p = c .before .before .before .before .before .before .before .before .before .before .before .before .parts-of .result in
-    let m = map-is p _ _ (c .before .before .before .before .before .before .before .before .before .bits-of .ensures) (c .before .before .before .before .before .before .before .before .map-of-parts .ensures) in
-    accepted _ _ (callRecord (c .before .before .before .before .before .before .before .before .before .before .before .before .before .before .args .call)) _ (record-long (c .before .before .before .before .before .before .before .before .before .before .before .before .before .before .args .call) p _ _ (c .before .before .before .before .before .before .before .before .before .before .before .before .parts-of .ensures) (c .before .before .before .before .before .before .before .before .before .bits-of .ensures) m _ (c .before .before .before .before .before .before .before .fields-size .ensures .0)) (omega (arith, c .before .before .before .before .before .if2 .left, c .before .before .before .before .before .before .if1 .left)) _ (c .before .before .write-fields .ensures ∙ rw (record-is (c .before .before .before .before .before .before .before .before .before .before .before .before .before .before .args .call) p _ _ (c .before .before .before .before .before .before .before .before .before .before .before .before .parts-of .ensures) (c .before .before .before .before .before .before .before .before .before .bits-of .ensures) m))
+    let call = c .before .before .before .before .before .before .before .before .before .before .before .args .call in
+    let r = c .before .before .before .before .before .before .before .before .before .record-of in
+    accepted _ _ (callRecord call) _ (record-long call (r .result) (r .ensures) _ (c .before .before .before .before .before .before .before .fields-size .ensures .0)) (omega (arith, c .before .before .before .before .before .if2 .left, c .before .before .before .before .before .before .if1 .left)) _ (c .before .before .write-fields .ensures ∙ rw (record-is call (r .result) (r .ensures)))
 
 pub write-call-spec : {M : Type 1} → statement M
 write-call-spec =
     tie.close
     (tie.spec
-    parts-of-requires
-    bits-of-requires
-    map-of-parts-requires
+    record-of-requires
     fields-size-requires
     add-size
     returns
@@ -82,6 +68,6 @@ write-call-spec =
     part-write-fields-end
     slice-aggregate-write-fields
     write-fields-requires
-    add-t15
+    add-t10
     same-length
     returns-3)

@@ -14,8 +14,8 @@ write-byte-requires c κs = omega (arith, c .before .before .before .before .bef
 write-byte-requires-2 : tie.Need-write-byte-requires-2
 write-byte-requires-2 c κs = omega (arith, c .before .before .before .before .before .before .before .before .before .before .before .pre .0, size-is (c .before .before .before .before .before .before .before .before .before .before .before .args .map), c .before .before .before .before .before .before .before .write-number .kept .0, c .before .before .before .write-byte .kept .0, c .before .before .before .write-byte .ensures .1)
 
-write-values-requires : tie.Need-write-values-requires
-write-values-requires c κs = rw (c .before .before .before .before .before .before .before .before .before .before .before .before .before .before .before .pre .1) (omega (arith, c .before .before .before .before .before .before .before .before .before .before .before .before .before .before .before .pre .0, size-is (c .before .before .before .before .before .before .before .before .before .before .before .before .before .before .before .args .map), c .before .before .before .before .before .before .before .before .before .before .before .write-number .kept .0, c .before .before .before .before .before .before .before .write-byte .kept .0, c .before .before .before .before .before .before .before .write-byte .ensures .1, c .before .before .before .write-byte2 .kept .0, c .before .before .before .write-byte2 .ensures .1))
+write-numbers-requires : tie.Need-write-numbers-requires
+write-numbers-requires c κs = (omega (arith, c .before .before .before .before .before .before .before .before .before .before .before .before .before .before .before .pre .0, size-is (c .before .before .before .before .before .before .before .before .before .before .before .before .before .before .before .args .map), c .before .before .before .before .before .before .before .before .before .before .before .write-number .kept .0, c .before .before .before .before .before .before .before .write-byte .kept .0, c .before .before .before .before .before .before .before .write-byte .ensures .1, c .before .before .before .write-byte2 .kept .0, c .before .before .before .write-byte2 .ensures .1), c .before .before .before .before .before .before .before .before .before .before .before .before .before .before .before .pre .1)
 
 same-length : tie.Need-same-length
 same-length c = search needs
@@ -23,7 +23,7 @@ same-length c = search needs
 returns : tie.Need-returns
 returns c =
     let a = c .before .before .before .before .before .before .before .before .before .before .before .before .before .before .before .before .before .before .args in
-    fields-written (a .part .now) (c .before .before .before .before .before .before .before .before .before .before .before .before .before .before .write-number .last .0) (c .before .before .before .before .before .before .before .before .before .before .write-byte .last .0) (c .before .before .before .before .before .before .write-byte2 .last .0) _ (a .map) (a .kind) (a .regime) _ _ (a .v .now) (c .before .before .before .before .before .before .before .before .before .before .before .before .before .before .before .before .before .before .pre .0) (c .before .before .before .before .before .before .before .before .before .before .before .before .before .before .before .before .before .before .pre .1) (c .before .before .before .before .before .before .before .before .before .before .before .before .before .before .write-number .ensures) (c .before .before .before .before .before .before .before .before .before .before .write-byte .ensures .0) (c .before .before .before .before .before .before .before .before .before .before .write-byte .ensures .1) (c .before .before .before .before .before .before .write-byte2 .ensures .0) (c .before .before .before .before .before .before .write-byte2 .ensures .1) (c .before .before .write-values .ensures .0)
+    fields-written (a .part .now) (c .before .before .before .before .before .before .before .before .before .before .before .before .before .before .write-number .last .0) (c .before .before .before .before .before .before .before .before .before .before .write-byte .last .0) (c .before .before .before .before .before .before .write-byte2 .last .0) _ (a .map) (a .kind) (a .regime) _ _ (a .v .now) (c .before .before .before .before .before .before .before .before .before .before .before .before .before .before .before .before .before .before .pre .0) (c .before .before .before .before .before .before .before .before .before .before .before .before .before .before .before .before .before .before .pre .1) (c .before .before .before .before .before .before .before .before .before .before .before .before .before .before .write-number .ensures) (c .before .before .before .before .before .before .before .before .before .before .write-byte .ensures .0) (c .before .before .before .before .before .before .before .before .before .before .write-byte .ensures .1) (c .before .before .before .before .before .before .write-byte2 .ensures .0) (c .before .before .before .before .before .before .write-byte2 .ensures .1) (c .before .before .write-numbers .ensures)
 
 pub write-fields-spec : {M : Type 1} → statement M
 write-fields-spec =
@@ -32,6 +32,6 @@ write-fields-spec =
     write-number-requires
     write-byte-requires
     write-byte-requires-2
-    write-values-requires
+    write-numbers-requires
     same-length
     returns)

@@ -1,148 +1,87 @@
 -- `config::config_of` meets its contract. Assumes nothing.
-use mathlib.Core.Path.{refl}
 use borrow.Author.Needs.{needs}
 use Rattle.records.specs.Config.{configOf}
 use Rattle.records.proofs.config.config_of.Statement.{statement}
 use Rattle.records.proofs.config.config_of.Tie as tie
 
-array-read-t5 : tie.Need-array-read-t5
-array-read-t5 c = search needs
+tecs-of-requires : tie.Need-tecs-of-requires
+tecs-of-requires c κs = search needs
 
-array-read-t8 : tie.Need-array-read-t8
-array-read-t8 c = search needs
+array-read-t7 : tie.Need-array-read-t7
+array-read-t7 c = search needs
 
-array-read-t11 : tie.Need-array-read-t11
-array-read-t11 c = search needs
+array-read-t10 : tie.Need-array-read-t10
+array-read-t10 c = search needs
 
-array-read-t14 : tie.Need-array-read-t14
-array-read-t14 c = search needs
+array-read-t13 : tie.Need-array-read-t13
+array-read-t13 c = search needs
 
-array-read-t17 : tie.Need-array-read-t17
-array-read-t17 c = search needs
+array-read-t16 : tie.Need-array-read-t16
+array-read-t16 c = search needs
 
-array-read-t20 : tie.Need-array-read-t20
-array-read-t20 c = search needs
+array-read-t19 : tie.Need-array-read-t19
+array-read-t19 c = search needs
 
-array-read-t24 : tie.Need-array-read-t24
-array-read-t24 c = search needs
+array-read-t22 : tie.Need-array-read-t22
+array-read-t22 c = search needs
 
-array-read-t27 : tie.Need-array-read-t27
-array-read-t27 c = search needs
+array-read-t26 : tie.Need-array-read-t26
+array-read-t26 c = search needs
 
-array-read-t30 : tie.Need-array-read-t30
-array-read-t30 c = search needs
+array-read-t29 : tie.Need-array-read-t29
+array-read-t29 c = search needs
 
-array-read-t33 : tie.Need-array-read-t33
-array-read-t33 c = search needs
+array-read-t32 : tie.Need-array-read-t32
+array-read-t32 c = search needs
 
-array-read-t36 : tie.Need-array-read-t36
-array-read-t36 c = search needs
+array-read-t35 : tie.Need-array-read-t35
+array-read-t35 c = search needs
 
-array-read-t39 : tie.Need-array-read-t39
-array-read-t39 c = search needs
+array-read-t38 : tie.Need-array-read-t38
+array-read-t38 c = search needs
 
-array-read-t42 : tie.Need-array-read-t42
-array-read-t42 c = search needs
+array-read-t41 : tie.Need-array-read-t41
+array-read-t41 c = search needs
 
-array-read-t45 : tie.Need-array-read-t45
-array-read-t45 c = search needs
+array-read-t44 : tie.Need-array-read-t44
+array-read-t44 c = search needs
 
-array-read-t48 : tie.Need-array-read-t48
-array-read-t48 c = search needs
+array-read-t47 : tie.Need-array-read-t47
+array-read-t47 c = search needs
 
-array-read-t51 : tie.Need-array-read-t51
-array-read-t51 c = search needs
+array-read-t50 : tie.Need-array-read-t50
+array-read-t50 c = search needs
 
-array-read-t54 : tie.Need-array-read-t54
-array-read-t54 c = search needs
+array-read-t53 : tie.Need-array-read-t53
+array-read-t53 c = search needs
 
-array-read-t57 : tie.Need-array-read-t57
-array-read-t57 c = search needs
-
-array-read-t60 : tie.Need-array-read-t60
-array-read-t60 c = search needs
-
-array-read-t63 : tie.Need-array-read-t63
-array-read-t63 c = search needs
-
-array-read-t66 : tie.Need-array-read-t66
-array-read-t66 c = search needs
-
-array-read-t69 : tie.Need-array-read-t69
-array-read-t69 c = search needs
-
-array-read-t72 : tie.Need-array-read-t72
-array-read-t72 c = search needs
-
-array-read-t75 : tie.Need-array-read-t75
-array-read-t75 c = search needs
-
-array-read-t78 : tie.Need-array-read-t78
-array-read-t78 c = search needs
-
-array-read-t81 : tie.Need-array-read-t81
-array-read-t81 c = search needs
-
-array-read-t84 : tie.Need-array-read-t84
-array-read-t84 c = search needs
-
-array-read-t87 : tie.Need-array-read-t87
-array-read-t87 c = search needs
-
-array-read-t90 : tie.Need-array-read-t90
-array-read-t90 c = search needs
-
-array-read-t93 : tie.Need-array-read-t93
-array-read-t93 c = search needs
-
-array-read-t97 : tie.Need-array-read-t97
-array-read-t97 c = search needs
-
-array-read-t100 : tie.Need-array-read-t100
-array-read-t100 c = search needs
-
-array-read-t103 : tie.Need-array-read-t103
-array-read-t103 c = search needs
+array-read-t56 : tie.Need-array-read-t56
+array-read-t56 c = search needs
 
 returns : tie.Need-returns
 unfolding configOf
-returns c = refl
+returns c = rw (c .tecs-of .ensures)
 
 pub config-of-spec : {M : Type 1} → statement M
 config-of-spec =
     tie.close
     (tie.spec
-    array-read-t5
-    array-read-t8
-    array-read-t11
-    array-read-t14
-    array-read-t17
-    array-read-t20
-    array-read-t24
-    array-read-t27
-    array-read-t30
-    array-read-t33
-    array-read-t36
-    array-read-t39
-    array-read-t42
-    array-read-t45
-    array-read-t48
-    array-read-t51
-    array-read-t54
-    array-read-t57
-    array-read-t60
-    array-read-t63
-    array-read-t66
-    array-read-t69
-    array-read-t72
-    array-read-t75
-    array-read-t78
-    array-read-t81
-    array-read-t84
-    array-read-t87
-    array-read-t90
-    array-read-t93
-    array-read-t97
-    array-read-t100
-    array-read-t103
+    tecs-of-requires
+    array-read-t7
+    array-read-t10
+    array-read-t13
+    array-read-t16
+    array-read-t19
+    array-read-t22
+    array-read-t26
+    array-read-t29
+    array-read-t32
+    array-read-t35
+    array-read-t38
+    array-read-t41
+    array-read-t44
+    array-read-t47
+    array-read-t50
+    array-read-t53
+    array-read-t56
     returns)
