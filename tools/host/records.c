@@ -1,6 +1,6 @@
 /* The archive's record functions, as the oracle prints its own.
  *     records entries < ENTRIES      the oracle's `records`: what was read, and every byte of the buffer after writing it
- *     records rewrite < RECORDING    the oracle's `rewrite`: the recording by the writer's rules
+ *     records rewrite < RECORDING    the oracle's `rewrite`: the recording by the writer's rules, up to a bad record
  * Configurations are read by nuthkolla_read_config. The archive gives no call's numbers, so that a call's refusal and place come
  * from nuthkolla_run on a fresh guidance, and its numbers from records.h; nuthkolla_write_call writes them. */
 #include "records.h"
@@ -81,19 +81,25 @@ static int entries(size_t length)
     return 0;
 }
 
+static int stopped(uint32_t refusal)
+{
+    fprintf(stderr, "stopped %u\n", refusal);
+    return 1;
+}
+
 static int rewrite(size_t length)
 {
     uint8_t out[NUTHKOLLA_CONFIG_BYTES];
     nuthkolla_config_read r = nuthkolla_read_config(input, length, 0);
     if (r.refusal != 0)
-        return 1;
+        return stopped(r.refusal);
     nuthkolla_place p = nuthkolla_write_config(out, sizeof out, 0, r.config);
     fwrite(out, 1, p.next, stdout);
     for (size_t place = r.next; place < length;) {
         nuthkolla_guidance g = fresh;
         nuthkolla_answer a = nuthkolla_run(&g, NUTHKOLLA_CALL, input + place, length - place);
         if (a.next == 0)
-            return 1;
+            return stopped(a.refusal);
         p = nuthkolla_write_call(out, sizeof out, 0, call_of(input + place));
         fwrite(out, 1, p.next, stdout);
         place += a.next;

@@ -13,7 +13,7 @@ const GRAVITY: f32 = 9.80665;
 enum Theme {
     /// A fallback whose two terms overflow against each other.
     Overflow,
-    /// A cap of one zero under a pitch limit of the other.
+    /// A cap of one zero under a pitch limit of the other, or such thrust limits.
     Zeros,
     /// A speed demand that is off by just as much as one step may change it.
     SpeedDemand,
@@ -48,6 +48,8 @@ fn prepare(theme: Theme, random: &mut Random, numbers: &mut Numbers) {
         Theme::Zeros => {
             numbers[1] = random.pick(&[0.0, -0.0, 0.25]);
             numbers[2] = random.pick(&[0.0, -0.0]);
+            numbers[30] = random.pick(&[0.0, -0.0, 0.25]);
+            numbers[31] = random.pick(&[0.0, -0.0, 0.75]);
         }
         Theme::SpeedDemand => {
             numbers[15] = climb_of_rate(32.0);
