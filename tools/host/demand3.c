@@ -12,7 +12,7 @@
 #include <math.h>
 #include <stdlib.h>
 
-enum { MOST_CALLS = 1 << 14 };
+enum { MOST_CALLS = 4096 };
 
 typedef struct entry {
     uint32_t what;
@@ -25,9 +25,8 @@ typedef struct entry {
     int underspeed, struck;
 } entry;
 
-static uint8_t input[1 << 27];
+static uint8_t input[1 << 20]; /* a list of MOST_CALLS calls has fewer bytes */
 static entry entries[MOST_CALLS];
-static size_t list_length;
 static unsigned long list_number;
 static unsigned long calls, struck, repeated, starts, beside_fresh, checked[4], full_thrust;
 
@@ -101,7 +100,8 @@ static int underspeed_after(const entry *e, int before)
 
 /* ---- the list as first run */
 
-/* Reads the list and runs it; the number of its calls, or 0 if its configuration is refused or a record cannot be read. */
+/* Reads the list and runs it; the number of its calls, or 0 if its configuration is refused, a record cannot be read or it is too
+ * long. */
 static size_t first_run(const uint8_t *list, size_t length)
 {
     nuthkolla_guidance g;
@@ -131,7 +131,7 @@ static size_t first_run(const uint8_t *list, size_t length)
         e->config = config;
         e->underspeed = underspeed = accepted(e) ? underspeed_after(e, underspeed) : underspeed;
     }
-    return n;
+    return place < length ? 0 : n;
 }
 
 static nuthkolla_guidance fresh_with(nuthkolla_config config)
@@ -285,15 +285,15 @@ static int plant_named(const char *name)
 int main(int count, char **words)
 {
     plant = count > 2 && strcmp(words[1], "--plant") == 0 ? plant_named(words[2]) : NONE;
-    size_t length = fread(input, 1, sizeof input, stdin);
     unsigned long passed = 0, failures = 0;
-    for (size_t place = 0; length - place >= 4; place += 4 + list_length) {
-        const uint8_t *head = input + place;
-        list_length = head[0] | (size_t)head[1] << 8 | (size_t)head[2] << 16 | (size_t)head[3] << 24;
-        if (list_length > length - place - 4)
-            break;
+    for (uint8_t head[4]; fread(head, 1, 4, stdin) == 4;) {
+        size_t length = head[0] | (size_t)head[1] << 8 | (size_t)head[2] << 16 | (size_t)head[3] << 24;
+        if (length > sizeof input || fread(input, 1, length, stdin) != length) {
+            printf("a list is cut short or too long\n");
+            return 1;
+        }
         list_number++;
-        *(check_list(head + 4, list_length) ? &passed : &failures) += 1;
+        *(check_list(input, length) ? &passed : &failures) += 1;
     }
     printf("%lu calls in %lu lists; %lu struck, %lu answers repeated without them; %lu fresh starts, %lu answers beside them\n", calls,
         list_number, struck, repeated, starts, beside_fresh);
