@@ -13,6 +13,9 @@ enum { FILL = 0xa5 };
 static uint8_t input[1 << 27];
 static nuthkolla_guidance fresh;
 
+/* A place of an entry; 255 is the largest one. */
+static size_t place_of(uint8_t byte) { return byte == 255 ? SIZE_MAX : byte; }
+
 /* What was written: the place after it or the refusal, and the whole buffer. */
 static void print_written(nuthkolla_place p, const uint8_t *buffer, size_t room)
 {
@@ -70,7 +73,7 @@ static int entries(size_t length)
         }
         uint8_t buffer[256];
         memset(buffer, FILL, sizeof buffer);
-        (head[0] == 1 ? try_config : try_call)(head + 5, head[4], head[1], buffer, head[3], head[2]);
+        (head[0] == 1 ? try_config : try_call)(head + 5, head[4], place_of(head[1]), buffer, head[3], place_of(head[2]));
         for (size_t i = head[3]; i < sizeof buffer; i++)
             if (buffer[i] != FILL) {
                 printf("%lu: a byte past the buffer was written\n", number);

@@ -82,3 +82,71 @@ def of_report(report, unreachable_rows):
     sections, rest = report.split("\nplaces\n")
     places = rest.split("\nnever taken\n")[0]
     return {**of_sections(sections), **of_places(places, unreachable)}
+
+
+# ---- records: which of document 01's rules an entry meets
+
+KINDS = 7
+CALL_BITS, FIELDS = 22, 33
+USED_BY = {0: 0x000001, 1: 0x00003F, 2: 0x00007F, 3: 0x3FFF87, 4: 0x00003F, 5: 0x000007, 6: 0x00007F}
+READER = ["place past the end", "map cut short", "unnamed bit", "fields cut short"]
+WRITER = ["place past the buffer", "too few bytes", "exactly full", "room left"]
+ENTRIES = [
+    *(f"configuration, {name}" for name in [*READER, *WRITER, *(f"field {field}" for field in range(1, FIELDS + 1))]),
+    *(f"call, {name}" for name in [*READER, *WRITER, "no kind bit", "half a leg", "kind above 6", "regime above 1"]),
+    *(f"call, kind {kind}" for kind in range(KINDS)),
+    *(f"call, bit {bit}" for bit in range(1, CALL_BITS)),
+    "call, unused field stands",
+]
+
+
+def reader_ways(entry):
+    """The rules that a reader meets, by name: those of one refusal, or what is read."""
+    configuration, place, data = entry[0] == 1, entry[1], entry[5:]
+    map_bytes, bits = (5, FIELDS) if configuration else (4, CALL_BITS)
+    if place > len(data):
+        return ["place past the end"]
+    if len(data) - place < map_bytes:
+        return ["map cut short"]
+    bit_map = int.from_bytes(data[place : place + map_bytes], "little")
+    faults = ["unnamed bit"] if bit_map >> bits else []
+    if not configuration:
+        faults += [] if bit_map & 1 else ["no kind bit"]
+        faults += ["half a leg"] if bit_map >> 9 & 3 in (1, 2) else []
+    if faults:
+        return faults
+    single = 0 if configuration else (bit_map & 3).bit_count()
+    if len(data) - place - map_bytes < 4 * bit_map.bit_count() - 3 * single:
+        return ["fields cut short"]
+    if configuration:
+        return [f"field {bit + 1}" for bit in range(FIELDS) if bit_map >> bit & 1]
+    return call_ways(bit_map, data[place + map_bytes :])
+
+
+def call_ways(bit_map, body):
+    """The same of a call whose bytes are all there."""
+    kind, regime = body[0], body[1] if bit_map & 2 else 1
+    faults = ["kind above 6"] * (kind >= KINDS) + ["regime above 1"] * (regime > 1)
+    if faults:
+        return faults
+    standing = [f"bit {bit}" for bit in range(1, CALL_BITS) if bit_map >> bit & 1]
+    return [f"kind {kind}", *standing, *["unused field stands"] * (bit_map & ~USED_BY[kind] != 0)]
+
+
+def writer_way(entry, line):
+    """The rule that the writer meets, if there is something to write."""
+    words, room = line.split(), entry[3]
+    if words[1] != b"read":
+        return []
+    if words[3] == b"refused":
+        return ["place past the buffer" if entry[2] > room else "too few bytes"]
+    return ["exactly full" if int(words[4]) == room else "room left"]
+
+
+def of_entries(items, lines):
+    """How many entries met each rule; the lines are the oracle's for them."""
+    found = Counter({name: 0 for name in ENTRIES})
+    for entry, line in zip(items, lines, strict=True):
+        what = "configuration" if entry[0] == 1 else "call"
+        found.update(f"{what}, {name}" for name in [*reader_ways(entry), *writer_way(entry, line)])
+    return found

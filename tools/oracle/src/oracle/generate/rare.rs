@@ -26,8 +26,10 @@ enum Theme {
 const THEMES: [Theme; 5] =
     [Theme::Overflow, Theme::Zeros, Theme::SpeedDemand, Theme::HeightDemand, Theme::PitchIntegral];
 
-pub fn input(random: &mut Random, calls: usize) -> Input {
-    let theme = random.pick(&THEMES);
+/// Seeds one after the other take the themes in turn.
+pub fn input(seed: u64, calls: usize) -> Input {
+    let theme = THEMES[(seed % THEMES.len() as u64) as usize];
+    let random = &mut Random::new(!seed);
     let mut numbers = ties::round_numbers();
     prepare(theme, random, &mut numbers);
     let configuration = spelled(random, &numbers);
