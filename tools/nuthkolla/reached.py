@@ -3,8 +3,9 @@
 from collections import Counter
 
 # What can stand in a line of answers, and of records.
+WAYPOINTS = [f"{lateral} {vertical}" for lateral in ("track", "loiter") for vertical in ("energy", "hold", "fallback")]
 ANSWERS = {
-    **{f"{lateral} {vertical}": f" {lateral} {vertical} " for lateral in ("track", "loiter") for vertical in ("energy", "hold", "fallback")},
+    **{laws: f" {laws} " for laws in WAYPOINTS},
     "plane": " plane ",
     "rate": " rate ",
     "prime": " prime\n",
