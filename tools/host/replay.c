@@ -1,10 +1,13 @@
 /* Replays a recording or a list of tools/oracle through the archive, and prints the oracle's lines.
- *     replay desk|list [--state] < INPUT */
+ *     replay desk|list [--state] [--many] < INPUT
+ * With --many the input has many recordings or lists, each after its length: four bytes, low byte first. */
 #include "lines.h"
 
 #include <stdlib.h>
 
-static uint8_t input[1 << 24];
+static uint8_t all[1 << 26];
+static const uint8_t *input;
+static int list, state;
 
 static void print_state(unsigned long number, const nuthkolla_guidance *g)
 {
@@ -35,11 +38,8 @@ static int entry(nuthkolla_guidance *g, unsigned long number, uint32_t what, siz
     return 1;
 }
 
-int main(int count, char **words)
+static void run(size_t length)
 {
-    int list = count > 1 && strcmp(words[1], "list") == 0;
-    int state = count > 2 && strcmp(words[2], "--state") == 0;
-    size_t length = fread(input, 1, sizeof input, stdin);
     nuthkolla_guidance g;
     memset(&g, 0xa5, sizeof g);
     nuthkolla_answer made = nuthkolla_run(&g, NUTHKOLLA_NEW, input, length);
@@ -48,26 +48,57 @@ int main(int count, char **words)
             printf("config refused %u\n", made.field);
         else
             printf("config stopped %u\n", made.refusal);
-        return 0;
+        return;
     }
     size_t place = made.next;
     for (unsigned long number = 1; place < length; number++) {
         uint32_t what = NUTHKOLLA_CALL;
         if (!list && number > 4096) {
             printf("%lu stopped 9\n", number);
-            return 0;
+            return;
         }
         if (list) {
             what = input[place++];
             if (what > 1) {
                 printf("%lu stopped tag\n", number);
-                return 0;
+                return;
             }
         }
         if (!entry(&g, number, what, length, &place))
-            return 0;
+            return;
         if (state)
             print_state(number, &g);
     }
+}
+
+static void run_many(size_t length)
+{
+    size_t place = 0;
+    for (unsigned long number = 1; length - place >= 4; number++) {
+        const uint8_t *head = all + place;
+        size_t part = head[0] | (size_t)head[1] << 8 | (size_t)head[2] << 16 | (size_t)head[3] << 24;
+        if (part > length - place - 4)
+            return;
+        input = head + 4;
+        printf("input %lu\n", number);
+        run(part);
+        place += 4 + part;
+    }
+}
+
+int main(int count, char **words)
+{
+    int many = 0;
+    for (int i = 1; i < count; i++) {
+        list |= strcmp(words[i], "list") == 0;
+        state |= strcmp(words[i], "--state") == 0;
+        many |= strcmp(words[i], "--many") == 0;
+    }
+    input = all;
+    size_t length = fread(all, 1, sizeof all, stdin);
+    if (many)
+        run_many(length);
+    else
+        run(length);
     return 0;
 }

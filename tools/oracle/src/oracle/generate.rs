@@ -2,6 +2,7 @@
 
 mod damaged;
 mod flights;
+mod rare;
 mod ties;
 mod wild;
 
@@ -44,10 +45,14 @@ impl Input {
     }
 }
 
+/// The seeds of these four give what the fixed list and other stored inputs were made of.
 pub const KINDS: [&str; 4] = ["flights", "wild", "ties", "damaged"];
 
 /// An input of a kind, with about so many calls (`damaged` has few, and stops early).
 pub fn input(kind: &str, seed: u64, calls: usize) -> Option<Input> {
+    if kind == "rare" {
+        return Some(rare::input(seed, calls));
+    }
     let index = KINDS.iter().position(|known| *known == kind)?;
     let mut random = Random::new(seed * KINDS.len() as u64 + index as u64);
     Some(match index {

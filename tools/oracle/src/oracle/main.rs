@@ -33,13 +33,36 @@ fn output(bytes: &[u8]) {
     std::io::stdout().write_all(bytes).expect("standard output can be written");
 }
 
-fn print_for(options: &[String]) -> Print {
-    match options.first().map(String::as_str) {
+fn print_for(option: Option<&str>) -> Print {
+    match option {
         None => Print::Answers,
         Some("--state") => Print::Both,
         Some("--state-only") => Print::State,
         Some(other) => usage(&format!("unknown option {other}")),
     }
+}
+
+/// The lines for one input, or with `--many` for each of many, each under a line with its number.
+fn lines(form: Form, options: &[String]) -> String {
+    let many = options.iter().any(|option| option == "--many");
+    let print = print_for(options.iter().map(String::as_str).find(|option| *option != "--many"));
+    let bytes = input();
+    if !many {
+        return desk::lines(&bytes, form, print);
+    }
+    let texts = parts(&bytes).into_iter().enumerate();
+    texts.map(|(n, part)| format!("input {}\n{}", n + 1, desk::lines(part, form, print))).collect()
+}
+
+/// Many inputs, each after its length, four bytes, low byte first.
+fn parts(mut bytes: &[u8]) -> Vec<&[u8]> {
+    let mut parts = Vec::new();
+    while let Some((length, rest)) = bytes.split_first_chunk::<4>() {
+        let (part, rest) = rest.split_at(u32::from_le_bytes(*length) as usize);
+        parts.push(part);
+        bytes = rest;
+    }
+    parts
 }
 
 fn number(arguments: &[String], index: usize) -> u64 {
@@ -114,13 +137,31 @@ fn generate(kind: &str, seed: u64, calls: u64, form: Form) -> Vec<u8> {
     }
 }
 
-/// Counts over so many generated inputs of a kind, or of all, each with so many calls.
-fn count(kind: &str, seed: u64, inputs: u64, calls: u64) -> String {
+/// Many inputs, of seeds one after the other, in the form that `parts` reads.
+fn generate_many(kind: &str, seed: u64, inputs: u64, calls: u64, form: Form) -> Vec<u8> {
+    let mut bytes = Vec::new();
+    for seed in seed..seed + inputs {
+        let part = generate(kind, seed, calls, form);
+        bytes.extend((part.len() as u32).to_le_bytes());
+        bytes.extend(part);
+    }
+    bytes
+}
+
+fn form_for(word: Option<&String>) -> Form {
+    if word.is_some_and(|form| form == "list") { Form::List } else { Form::Recording }
+}
+
+/// Counts over groups of generated inputs: of a kind, or of the four, so many, each with so many calls.
+fn count(groups: &[String]) -> String {
     let mut tally = Tally::default();
-    let kinds = if kind == "all" { generate::KINDS.to_vec() } else { vec![kind] };
-    for kind in kinds {
-        for seed in seed..seed + inputs {
-            tally.run(&generate(kind, seed, calls, Form::List), Form::List);
+    for group in groups.chunks(4) {
+        let (seed, inputs, calls) = (number(group, 1), number(group, 2), number(group, 3));
+        let kinds = if group[0] == "all" { generate::KINDS.to_vec() } else { vec![group[0].as_str()] };
+        for kind in kinds {
+            for seed in seed..seed + inputs {
+                tally.run(&generate(kind, seed, calls, Form::List), Form::List);
+            }
         }
     }
     report(&tally)
@@ -158,8 +199,8 @@ fn main() {
     let arguments: Vec<String> = std::env::args().skip(1).collect();
     let rest = arguments.get(1..).unwrap_or(&[]);
     match arguments.first().map(String::as_str) {
-        Some("desk") => output(desk::lines(&input(), Form::Recording, print_for(rest)).as_bytes()),
-        Some("list") => output(desk::lines(&input(), Form::List, print_for(rest)).as_bytes()),
+        Some("desk") => output(lines(Form::Recording, rest).as_bytes()),
+        Some("list") => output(lines(Form::List, rest).as_bytes()),
         Some("rewrite") => {
             let (bytes, end) = desk::rewrite(&input());
             output(&bytes);
@@ -173,12 +214,13 @@ fn main() {
         Some("functions") => output(list_functions().as_bytes()),
         Some("rows") if rest.len() == 3 => output(&rows(&rest[0], number(rest, 1), number(rest, 2))),
         Some("generate") if rest.len() >= 3 => {
-            let form = if rest.get(3).is_some_and(|form| form == "list") { Form::List } else { Form::Recording };
-            output(&generate(&rest[0], number(rest, 1), number(rest, 2), form));
+            output(&generate(&rest[0], number(rest, 1), number(rest, 2), form_for(rest.get(3))));
         }
-        Some("count") if rest.len() == 4 => {
-            output(count(&rest[0], number(rest, 1), number(rest, 2), number(rest, 3)).as_bytes());
+        Some("generate-many") if rest.len() >= 4 => {
+            let (seed, inputs, calls) = (number(rest, 1), number(rest, 2), number(rest, 3));
+            output(&generate_many(&rest[0], seed, inputs, calls, form_for(rest.get(4))));
         }
+        Some("count") if !rest.is_empty() => output(count(rest).as_bytes()),
         Some("original") => output(original::beside(&input()).as_bytes()),
         Some("trigonometry") => output(trigonometry::report().as_bytes()),
         Some("count-files") => output(count_files(rest).as_bytes()),

@@ -26,7 +26,7 @@ fn record_of(random: &mut Random) -> Vec<u8> {
 }
 
 /// Round numbers, with which sums and products come out exactly and limits are met exactly.
-fn round_numbers() -> Numbers {
+pub fn round_numbers() -> Numbers {
     [
         0.5, 0.5, 0.25, 2.0, 1.0, 0.5, 0.0, 0.5, 8.0, 0.5, 32.0, 0.5, 0.25, 4.0, 4.0, 4.0, 2.0, 4.0, 0.5, 0.25, 0.5,
         0.25, 1.0, 8.0, 8.0, 16.0, 0.5, 2.0, 0.5, 1.0, 0.25, 0.75, 0.5,

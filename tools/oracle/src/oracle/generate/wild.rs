@@ -37,7 +37,7 @@ pub fn input(random: &mut Random, calls: usize) -> Input {
 
 /// A fallback whose two terms overflow against each other: a tiny error over a long step fills
 /// the altitude integral, then a great error has the other sign.
-fn overflowing_integral(random: &mut Random, numbers: &mut crate::configuration::Numbers) -> Vec<Item> {
+pub fn overflowing_integral(random: &mut Random, numbers: &mut crate::configuration::Numbers) -> Vec<Item> {
     numbers[11] = random.pick(&[1e20, 1e25]);
     numbers[12] = f32::MAX;
     numbers[13] = f32::MAX;
