@@ -1,41 +1,42 @@
 -- `call::call_of` meets its contract, by the kind. Assumes nothing.
 use borrow.Author.Tests.{eq-eqb, ne-eqb}
+use lib.Dec.{lit<}
 use borrow.Author.Needs.{needs}
 use Rattle.records.specs.Call.{callOf, attitudeAt, rateAt, absoluteAttitudeAt, absoluteRateAt}
 use Rattle.records.proofs.call.call_of.Statement.{statement}
 use Rattle.records.proofs.call.call_of.Tie as tie
 
 array-read-dt : tie.Need-array-read-dt
-array-read-dt c = search needs
+array-read-dt c = lit< tt
 
 returns : tie.Need-returns
 unfolding callOf
 returns c = rw (eq-eqb _ _ (c .if1 .taken))
 
 array-read-t16 : tie.Need-array-read-t16
-array-read-t16 c = search needs
+array-read-t16 c = lit< tt
 
 array-read-t19 : tie.Need-array-read-t19
-array-read-t19 c = search needs
+array-read-t19 c = lit< tt
 
 array-read-t22 : tie.Need-array-read-t22
-array-read-t22 c = search needs
+array-read-t22 c = lit< tt
 
 returns-2 : tie.Need-returns-2
 unfolding callOf attitudeAt
 returns-2 c = rw (ne-eqb _ _ (c .before .if1 .left), eq-eqb _ _ (c .if2 .taken))
 
 array-read-t26 : tie.Need-array-read-t26
-array-read-t26 c = search needs
+array-read-t26 c = lit< tt
 
 array-read-t29 : tie.Need-array-read-t29
-array-read-t29 c = search needs
+array-read-t29 c = lit< tt
 
 array-read-t32 : tie.Need-array-read-t32
-array-read-t32 c = search needs
+array-read-t32 c = lit< tt
 
 array-read-t35 : tie.Need-array-read-t35
-array-read-t35 c = search needs
+array-read-t35 c = lit< tt
 
 returns-3 : tie.Need-returns-3
 unfolding callOf rateAt
@@ -48,7 +49,7 @@ state-of-requires : tie.Need-state-of-requires
 state-of-requires c κs = search needs
 
 array-read-option-of : tie.Need-array-read-option-of
-array-read-option-of c = search needs
+array-read-option-of c = lit< tt
 
 option-of-requires : tie.Need-option-of-requires
 option-of-requires c κs = search needs
@@ -58,13 +59,13 @@ unfolding callOf
 returns-4 c = rw (ne-eqb _ _ (c .before .before .before .before .before .before .if1 .left), ne-eqb _ _ (c .before .before .before .before .before .if2 .left), ne-eqb _ _ (c .before .before .before .before .if3 .left), eq-eqb _ _ (c .before .before .before .if4 .taken), c .before .before .waypoint-of .ensures, c .before .state-of .ensures, c .option-of .ensures)
 
 array-read-t44 : tie.Need-array-read-t44
-array-read-t44 c = search needs
+array-read-t44 c = lit< tt
 
 array-read-t47 : tie.Need-array-read-t47
-array-read-t47 c = search needs
+array-read-t47 c = lit< tt
 
 array-read-t50 : tie.Need-array-read-t50
-array-read-t50 c = search needs
+array-read-t50 c = lit< tt
 
 returns-5 : tie.Need-returns-5
 unfolding callOf absoluteAttitudeAt
@@ -75,16 +76,16 @@ unfolding callOf
 returns-6 c = rw (ne-eqb _ _ (c .before .before .before .before .before .if1 .left), ne-eqb _ _ (c .before .before .before .before .if2 .left), ne-eqb _ _ (c .before .before .before .if3 .left), ne-eqb _ _ (c .before .before .if4 .left), ne-eqb _ _ (c .before .if5 .left), eq-eqb _ _ (c .if6 .taken))
 
 array-read-t12 : tie.Need-array-read-t12
-array-read-t12 c = search needs
+array-read-t12 c = lit< tt
 
 array-read-t56 : tie.Need-array-read-t56
-array-read-t56 c = search needs
+array-read-t56 c = lit< tt
 
 array-read-t59 : tie.Need-array-read-t59
-array-read-t59 c = search needs
+array-read-t59 c = lit< tt
 
 array-read-t62 : tie.Need-array-read-t62
-array-read-t62 c = search needs
+array-read-t62 c = lit< tt
 
 returns-7 : tie.Need-returns-7
 unfolding callOf absoluteRateAt
