@@ -83,46 +83,7 @@ macro_rules! flown {
 
             pub struct Plane(pub PlaneGuidance);
 
-            /// The 33 numbers in the Rust's structure, field 1 first.
-            fn places(config: &mut PlaneGuidanceConfig) -> [&mut f32; 33] {
-                let tecs = &mut config.tecs;
-                let rate = &mut *config.max_rate_radps;
-                [
-                    &mut config.max_bank_rad,
-                    &mut config.max_pitch_up_rad,
-                    &mut config.max_pitch_down_rad,
-                    &mut rate.x,
-                    &mut rate.y,
-                    &mut rate.z,
-                    &mut config.trim_pitch_rad,
-                    &mut config.cruise_thrust,
-                    &mut config.l1_period_s,
-                    &mut config.l1_damping,
-                    &mut config.loiter_radius_m,
-                    &mut config.altitude_p,
-                    &mut config.altitude_i,
-                    &mut config.altitude_max_integral,
-                    &mut tecs.time_constant_s,
-                    &mut tecs.max_climb_mps,
-                    &mut tecs.min_sink_mps,
-                    &mut tecs.max_sink_mps,
-                    &mut tecs.thrust_damping,
-                    &mut tecs.integrator_gain,
-                    &mut tecs.pitch_damping,
-                    &mut tecs.pitch_integrator_gain,
-                    &mut tecs.speed_weight,
-                    &mut tecs.roll_compensation,
-                    &mut tecs.min_airspeed_mps,
-                    &mut tecs.max_airspeed_mps,
-                    &mut tecs.underspeed_share,
-                    &mut tecs.height_demand_time_constant_s,
-                    &mut tecs.airspeed_rate_time_constant_s,
-                    &mut tecs.kinetic_rate_high_pass_s,
-                    &mut config.min_thrust,
-                    &mut config.max_thrust,
-                    &mut config.climb_thrust_per_rad,
-                ]
-            }
+            include!("config_places.rs");
 
             pub fn config(numbers: &Numbers) -> PlaneGuidanceConfig {
                 let mut config = PlaneGuidanceConfig::default();
