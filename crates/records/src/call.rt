@@ -256,8 +256,8 @@ fn call_of(kind: u64, regime: FlightRegime, map: u64, v: [f32; 20]) -> Call
     }
 }
 
-// A call that is no waypoint has no number after bit 6, and a prime or a land none after bit 2: fewer bits to test and
-// fewer numbers to make.
+// As a rule a call that is no waypoint has no number after bit 6, and a prime or a land none after bit 2: fewer bits to
+// test and fewer numbers to make.
 
 // Reads the number of bit 2, where none after it stands.
 fn read_step(s: &[u8], from: Cursor, map: u64) -> [f32; 20]
