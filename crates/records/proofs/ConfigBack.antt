@@ -23,7 +23,8 @@ use Rattle.fields.proofs.RecordLaw.{map-small, fields-back, Within, size-within
 use Rattle.fields.proofs.LawsProof.{laws}
 use Rattle.records.specs.declared.config.ReadConfig.{ReadConfig}
 use Rattle.records.specs.declared.config.ReadConfig.the-variants.{Read, Refused}
-use Rattle.records.specs.Config.{configOf, numbersOf, configFields, configMap, configRecord, readConfig}
+use Rattle.config_numbers.specs.Numbers.{configOf, numbersOf}
+use Rattle.records.specs.Config.{configFields, configMap, configRecord, readConfig}
 use Rattle.records.specs.Laws.{ConfigF32, ConfigLaws}
 use Rattle.records.proofs.ConfigLaw.{fields-are, fields-long, bits-long, named-below}
 

@@ -12,7 +12,8 @@ use Rattle.laws.specs.Config.{default}
 use Rattle.fields.specs.Bytes.{numberAt, bytesOf, putAt}
 use Rattle.fields.specs.Fields.{Field, ones, named, sizeOf, valuesAt, mapOf, bodyOf, numberFields}
 use Rattle.fields.specs.Numbers.{floatsOf, bitsOf}
-use Rattle.records.specs.Config.{configOf, numbersOf, configFields, configMap, configRecord, readConfig}
+use Rattle.config_numbers.specs.Numbers.{configOf, numbersOf}
+use Rattle.records.specs.Config.{configFields, configMap, configRecord, readConfig}
 use Rattle.records.specs.declared.config.ReadConfig.the-variants.{Read, Refused}
 use Rattle.fields.proofs.NumberLaw.{bytes-long}
 use Rattle.fields.proofs.FieldLaw.{ones-below, rest-is, size-numbers, body-numbers, body-missing}

@@ -5,6 +5,7 @@ use Prim.Native.Nat.{ℕ}
 use Rattle.laws.specs.declared.config.PlaneGuidanceConfig.{PlaneGuidanceConfig}
 use Rattle.fields.specs.Numbers.{AreF32}
 use Rattle.fields.specs.Laws.{Laws}
+use Rattle.config_numbers.specs.Numbers.{numbersOf}
 use Rattle.records.specs.declared.call.Call.{Call}
 use Rattle.records.specs.declared.config.ReadConfig.the-variants as config
 use Rattle.records.specs.declared.call.ReadCall.the-variants as call
@@ -13,7 +14,7 @@ use Rattle.records.specs.Call as Call
 
 -- f32s hold the numbers of a configuration
 abbrev pub ConfigF32 : PlaneGuidanceConfig → Type 0
-ConfigF32 c = AreF32 (Config.numbersOf c)
+ConfigF32 c = AreF32 (numbersOf c)
 
 abbrev pub ConfigLaws : Type 0
 ConfigLaws = Laws ConfigF32 Config.configRecord Config.readConfig config.Read

@@ -1,9 +1,9 @@
--- `config::bits_of` meets its contract. Assumes nothing.
+-- `bits_of` meets its contract. Assumes nothing.
 use mathlib.Core.Path.{ap, _∙_}
 use borrow.Author.Needs.{needs}
 use Rattle.fields.specs.Numbers.{bitsOf}
-use Rattle.records.proofs.config.bits_of.Statement.{statement}
-use Rattle.records.proofs.config.bits_of.Tie as tie
+use Rattle.config_numbers.proofs.bits_of.Statement.{statement}
+use Rattle.config_numbers.proofs.bits_of.Tie as tie
 
 numbers-of-requires : tie.Need-numbers-of-requires
 numbers-of-requires c κs = search needs

@@ -1,8 +1,8 @@
--- `config::default_bits` meets its contract. Assumes nothing.
+-- `default_bits` meets its contract. Assumes nothing.
 use mathlib.Core.Path.{_∙_}
 use borrow.Author.Needs.{needs}
-use Rattle.records.proofs.config.default_bits.Statement.{statement}
-use Rattle.records.proofs.config.default_bits.Tie as tie
+use Rattle.config_numbers.proofs.default_bits.Statement.{statement}
+use Rattle.config_numbers.proofs.default_bits.Tie as tie
 
 default-requires : tie.Need-default-requires
 default-requires c κs = search needs

@@ -1,9 +1,9 @@
--- `config::config_of` meets its contract. Assumes nothing.
+-- `config_of` meets its contract. Assumes nothing.
 use lib.Dec.{lit<}
 use borrow.Author.Needs.{needs}
-use Rattle.records.specs.Config.{configOf}
-use Rattle.records.proofs.config.config_of.Statement.{statement}
-use Rattle.records.proofs.config.config_of.Tie as tie
+use Rattle.config_numbers.specs.Numbers.{configOf}
+use Rattle.config_numbers.proofs.config_of.Statement.{statement}
+use Rattle.config_numbers.proofs.config_of.Tie as tie
 
 tecs-of-requires : tie.Need-tecs-of-requires
 tecs-of-requires c κs = search needs

@@ -1,9 +1,9 @@
--- `config::tecs_of` meets its contract. Assumes nothing.
+-- `tecs_of` meets its contract. Assumes nothing.
 use mathlib.Core.Path.{refl}
 use lib.Dec.{lit<}
-use Rattle.records.specs.Config.{configOf}
-use Rattle.records.proofs.config.tecs_of.Statement.{statement}
-use Rattle.records.proofs.config.tecs_of.Tie as tie
+use Rattle.config_numbers.specs.Numbers.{configOf}
+use Rattle.config_numbers.proofs.tecs_of.Statement.{statement}
+use Rattle.config_numbers.proofs.tecs_of.Tie as tie
 
 array-read-t5 : tie.Need-array-read-t5
 array-read-t5 c = lit< tt

@@ -1,9 +1,9 @@
--- `config::config_of_bits` meets its contract. Assumes nothing.
+-- `config_of_bits` meets its contract. Assumes nothing.
 use mathlib.Core.Path.{ap, _∙_}
 use borrow.Author.Needs.{needs}
-use Rattle.records.specs.Config.{configOf}
-use Rattle.records.proofs.config.config_of_bits.Statement.{statement}
-use Rattle.records.proofs.config.config_of_bits.Tie as tie
+use Rattle.config_numbers.specs.Numbers.{configOf}
+use Rattle.config_numbers.proofs.config_of_bits.Statement.{statement}
+use Rattle.config_numbers.proofs.config_of_bits.Tie as tie
 
 slice-aggregate-floats : tie.Need-slice-aggregate-floats
 slice-aggregate-floats c = search needs
