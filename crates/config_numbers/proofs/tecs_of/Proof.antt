@@ -1,6 +1,6 @@
 -- `tecs_of` meets its contract. Assumes nothing.
-use mathlib.Core.Path.{refl}
 use lib.Dec.{lit<}
+use borrow.Author.Needs.{needs}
 use Rattle.config_numbers.specs.Numbers.{configOf}
 use Rattle.config_numbers.proofs.tecs_of.Statement.{statement}
 use Rattle.config_numbers.proofs.tecs_of.Tie as tie
@@ -55,7 +55,7 @@ array-read-t50 c = lit< tt
 
 returns : tie.Need-returns
 unfolding configOf
-returns c = refl
+returns c = search needs
 
 pub tecs-of-spec : {M : Type 1} → statement M
 tecs-of-spec =
