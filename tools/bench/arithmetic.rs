@@ -8,12 +8,7 @@ use std::time::Instant;
 #[allow(dead_code)]
 mod rust;
 
-unsafe extern "C" {
-    safe fn arithmetic_root(x: f32) -> f32;
-    safe fn arithmetic_sine(a: f32) -> f32;
-    safe fn arithmetic_cosine(r: f32) -> f32;
-    safe fn arithmetic_arctangent2(y: f32, x: f32) -> f32;
-}
+include!("../standins/archive.rs");
 
 #[inline(never)]
 extern "C" fn sine(a: f32) -> f32 {

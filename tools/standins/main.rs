@@ -10,12 +10,7 @@ use arguments::Arguments;
 #[allow(dead_code)]
 mod oracle;
 
-unsafe extern "C" {
-    safe fn arithmetic_root(x: f32) -> f32;
-    safe fn arithmetic_sine(a: f32) -> f32;
-    safe fn arithmetic_cosine(r: f32) -> f32;
-    safe fn arithmetic_arctangent2(y: f32, x: f32) -> f32;
-}
+include!("archive.rs");
 
 /// The bits of a number, every NaN as one.
 fn bits(x: f32) -> u32 {

@@ -55,15 +55,23 @@ unfolding ones
 ones-of-0 zero = refl
 ones-of-0 (suc n) = omega (arith, ones-of-0 n)
 
+-- the lowest bit of the suc n lowest, and the others
+module _ (n m : ℕ) where
+  low-is : m % 2 ^ suc n ≡ m / 2 % 2 ^ n * 2 + m % 2
+  low-is = ap (λ (p : ℕ). m % p) (pow-suc 2 n) ∙ mod-mul m (pow-pos n) (lit< tt)
+
+  pub low-bit : m % 2 ^ suc n % 2 ≡ m % 2
+  low-bit = rw low-is (omega arith)
+
+  pub low-half : m % 2 ^ suc n / 2 ≡ m / 2 % 2 ^ n
+  low-half = rw low-is (omega arith)
+
 -- bits above the n lowest taken off
 pub ones-low : (n d m : ℕ) → ones (n + d) (m % 2 ^ n) ≡ ones n m
 unfolding ones
 ones-low zero d m = let z : m % 1 ≡ 0 = omega arith in rw z (ones-of-0 (0 + d))
 ones-low (suc n) d m =
-    let e : m % 2 ^ suc n ≡ m / 2 % 2 ^ n * 2 + m % 2 = ap (λ (p : ℕ). m % p) (pow-suc 2 n) ∙ mod-mul m (pow-pos n) (lit< tt) in
-    let low : m % 2 ^ suc n % 2 ≡ m % 2 = rw e (omega arith) in
-    let half : m % 2 ^ suc n / 2 ≡ m / 2 % 2 ^ n = rw e (omega arith) in
-    ap (λ (k : ℕ). ones k (m % 2 ^ suc n)) (suc-add n d) ∙ ap₂ (λ (a b : ℕ). a + ones (n + d) b) low half ∙ ap (λ (a : ℕ). m % 2 + a) (ones-low n d (m / 2))
+    ap (λ (k : ℕ). ones k (m % 2 ^ suc n)) (suc-add n d) ∙ ap₂ (λ (a b : ℕ). a + ones (n + d) b) (low-bit n m) (low-half n m) ∙ ap (λ (a : ℕ). m % 2 + a) (ones-low n d (m / 2))
 
 -- no bit stands above the n lowest
 pub ones-below : (n d m : ℕ) → m < 2 ^ n → ones (n + d) m ≡ ones n m

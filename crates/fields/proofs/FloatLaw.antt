@@ -76,19 +76,24 @@ module _ {s : List ℕ} {from map n : ℕ} {v : List Float} {at m i : ℕ} (f : 
 abbrev pub full : ℕ → ℕ
 full n = 2 ^ n - 1
 
-pub full-odd : (n i : ℕ) → i < n → full (n - i) % 2 ≡ 1
-full-odd n i h =
-    let e : n - i ≡ suc (n - (i + 1)) = omega arith in
-    rw (e, pow-suc 2 (n - (i + 1))) (let p : 0 < 2 ^ (n - (i + 1)) = pow-pos (n - (i + 1)) in omega arith)
+module _ (n : ℕ) where
+  full-odd : full (suc n) % 2 ≡ 1
+  full-odd = let p : 0 < 2 ^ n = pow-pos n in rw (pow-suc 2 n) (omega arith)
 
-pub full-half : (n i : ℕ) → i < n → full (n - i) / 2 ≡ full (n - (i + 1))
-full-half n i h =
-    let e : n - i ≡ suc (n - (i + 1)) = omega arith in
-    rw (e, pow-suc 2 (n - (i + 1))) (let p : 0 < 2 ^ (n - (i + 1)) = pow-pos (n - (i + 1)) in omega arith)
+  full-half : full (suc n) / 2 ≡ full n
+  full-half = let p : 0 < 2 ^ n = pow-pos n in rw (pow-suc 2 n) (omega arith)
 
 pub ones-full : (n : ℕ) → ones n (full n) ≡ n
 ones-full zero = ones-none (full 0)
-ones-full (suc n) =
-    let odd : full (suc n) % 2 ≡ 1 = rw (pow-suc 2 n) (let p : 0 < 2 ^ n = pow-pos n in omega arith) in
-    let half : full (suc n) / 2 ≡ full n = rw (pow-suc 2 n) (let p : 0 < 2 ^ n = pow-pos n in omega arith) in
-    rw (ones-more n (full (suc n)), odd, half, ones-full n) (omega arith)
+ones-full (suc n) = rw (ones-more n (full (suc n)), full-odd n, full-half n, ones-full n) (omega arith)
+
+-- the same of the bits that are left after i of n
+module _ (n i : ℕ) (h : i < n) where
+  left : n - i ≡ suc (n - (i + 1))
+  left = omega arith
+
+  pub left-odd : full (n - i) % 2 ≡ 1
+  left-odd = rw left (full-odd (n - (i + 1)))
+
+  pub left-half : full (n - i) / 2 ≡ full (n - (i + 1))
+  left-half = rw left (full-half (n - (i + 1)))

@@ -4,20 +4,19 @@ use mathlib.Core.Bool.{Bool, true, false, cond}
 use mathlib.Core.List.{List, [], _∷_, _++_, append-assoc, append-nil}
 use Prim.Native.Nat.{ℕ, zero, suc, _+_, _-_, _*_, _/_, _%_, _<_, _≤_, _^_}
 use native.Mathlib.Omega.{arith}
-use native.Mathlib.Nat.{pow-suc, suc-add, mod-lt, sub-zero}
+use native.Mathlib.Nat.{suc-add, mod-lt, sub-zero}
 use borrow.Author.Tests.{eqb-true, eqb-false}
 use borrow.Rule.Slice.PartMut.{midOf, putMid}
-use lib.Arith.{mod-mul}
 use lib.Dec.{eqb, lit<}
 use lib.Ieee.{Float, binary32, ofBits}
 use lib.ListN.{length, drop, take, replicate, length-replicate, length-append, replicate-append-replicate}
-use lib.Pow.{pow-pos, shr-shr}
+use lib.Pow.{shr-shr}
 use lib.Seq.{take-at, drop-at, drop-drop, take-all}
 use Rattle.fields.specs.Bytes.{numberAt}
 use Rattle.fields.specs.Fields.{ones, numberFields, valuesAt}
 use Rattle.fields.specs.Numbers.{floatsOf}
 use Rattle.fields.proofs.MapLaw.{floats-length, floats-joined}
-use Rattle.fields.proofs.FieldLaw.{ones-none, ones-more, ones-low, numbers-long, values-long}
+use Rattle.fields.proofs.FieldLaw.{ones-none, ones-more, ones-low, low-bit, low-half, numbers-long, values-long}
 use Rattle.fields.proofs.FloatLaw.{none}
 
 -- n numbers, each of which missing is 0
@@ -64,11 +63,7 @@ values-joined (suc a) b m s = rw (suc-add a b, ← half-of m a) (go (eqb (m % 2)
 values-low : (n m : ℕ) (s : List ℕ) → Values n (m % 2 ^ n) s ≡ Values n m s
 unfolding valuesAt numberFields
 values-low zero m s = refl
-values-low (suc n) m s =
-    let e : m % 2 ^ suc n ≡ m / 2 % 2 ^ n * 2 + m % 2 = ap (λ (p : ℕ). m % p) (pow-suc 2 n) ∙ mod-mul m (pow-pos n) (lit< tt) in
-    let low : m % 2 ^ suc n % 2 ≡ m % 2 = rw e (omega arith) in
-    let half : m % 2 ^ suc n / 2 ≡ m / 2 % 2 ^ n = rw e (omega arith) in
-    rw (low, half, values-low n (m / 2) (drop 4 s), values-low n (m / 2) s)
+values-low (suc n) m s = rw (low-bit n m, low-half n m, values-low n (m / 2) (drop 4 s), values-low n (m / 2) s)
 
 floats-long : (n m : ℕ) (s : List ℕ) → length (Floats n m s) ≡ n
 floats-long n m s = floats-length (Values n m s) ∙ values-long (numberFields (replicate n 0)) m s ∙ numbers-long (replicate n 0) ∙ length-replicate {A = ℕ} n 0

@@ -6,7 +6,7 @@ use native.Mathlib.Omega.{arith}
 use native.Mathlib.Nat.{sub-zero}
 use lib.Ieee.{Float}
 use lib.ListN.{length, length-set}
-use Rattle.fields.proofs.FloatLaw.{Floating, full, full-odd, full-half, ones-full, float-starts, float-room, float-part, float-turn, float-done}
+use Rattle.fields.proofs.FloatLaw.{Floating, full, left-odd, left-half, ones-full, float-starts, float-room, float-part, float-turn, float-done}
 use Rattle.fields.proofs.numbers.read_all.Statement.{statement}
 use Rattle.fields.proofs.numbers.read_all.Tie as tie
 
@@ -15,10 +15,10 @@ Inv-loop s v₀ at₀ i₀ v at i = Floating s at₀ (full (length v₀)) (lengt
 
 -- while f32s are left, the lowest bit of the map that is left stands, and its half is the map that is left then
 odd : {s : List ℕ} {from map n : ℕ} {v : List Float} {at i : ℕ} → Floating s from map n v at (full (n - i)) i → i < length v → full (n - i) % 2 ≡ 1
-odd {s} {from} {map} {n} {v} {at} {i} f h = full-odd n i (omega (arith, f .long))
+odd {s} {from} {map} {n} {v} {at} {i} f h = left-odd n i (omega (arith, f .long))
 
 half : {s : List ℕ} {from map n : ℕ} {v : List Float} {at i : ℕ} → Floating s from map n v at (full (n - i)) i → i < length v → full (n - i) / 2 ≡ full (n - (i + 1))
-half {s} {from} {map} {n} {v} {at} {i} f h = full-half n i (omega (arith, f .long))
+half {s} {from} {map} {n} {v} {at} {i} f h = left-half n i (omega (arith, f .long))
 
 abbrev μ-loop : tie.MeasureT-loop
 μ-loop s v₀ at₀ i₀ v at i = length v - i
