@@ -92,7 +92,7 @@ int main(int count, char **words)
     config.loiter_radius_m = 60;
     uint8_t record[NUTHKOLLA_CONFIG_BYTES];
     size_t length = nuthkolla_write_config(record, sizeof record, 0, config).next;
-    nuthkolla_guidance guidance;
+    nuthkolla_guidance guidance = {0};
     must(nuthkolla_run(&guidance, NUTHKOLLA_NEW, record, length).refusal == 0, "the configuration is refused");
     must(fwrite(record, 1, length, stdout) == length, "the cable is cut");
 

@@ -1,24 +1,34 @@
 /* Nuthkolla: guidance of small unmanned planes, for a host in C.
  *
- * The host holds a guidance, a plain struct of 176 bytes, and runs calls on it. Every function
- * answers every input. All that is asked of a caller is C's own: a pointer points to as many bytes as
- * its length says, is not null even where that is 0, and the bytes are no part of the guidance.
- * Nothing is allocated, no file or clock is read, no other memory is kept or changed. Two guidances
- * can be used from two threads at once; one guidance from one thread at a time.
+ * The host holds a guidance, a plain struct of 176 bytes, and runs calls on it. Every function answers every
+ * value of its arguments. What a caller owes is C's own, and no proof covers it:
+ *   - a pointer points to as many initialised bytes as its length says, and is not null even where that is 0;
+ *   - a pointer to a guidance points to an initialised one, before NUTHKOLLA_NEW too (zeros will do);
+ *   - what two pointers of one call point to does not overlap;
+ *   - the stack has room, 2 kB (docs/HOST.md has the figures);
+ *   - one guidance is used from one thread at a time; two guidances can be used from two threads at once.
+ * Nothing is allocated, no file or clock is read, no other memory is kept or changed. docs/ARCHITECTURE.md,
+ * "What is proved and what is trusted", says the rest.
  *
  * Angles are radians, lengths metres, times seconds. North is x, east y, up z; right and nose up are
  * positive. Numbers are IEEE 754 binary32. Any NaN may come back as another NaN.
  *
- * Refusals, in checking order, and 0 for none:
- *   1  a configuration field fails; `field` has its number
+ * Refusals, and 0 for none, in checking order:
+ * 255  nuthkolla_run was asked for something that it does not know
+ * of a record, which is read whole before its call or configuration is judged:
+ *   5  its map is cut short, or the place is past the end
+ *   6  its map has an unnamed bit, lacks the kind bit, or has half a leg
+ *   5  it has fewer bytes than its map demands
+ *   7  its kind is above 6, or its regime above 1
+ * of a configuration:
+ *   1  a field fails; `field` has its number
+ * of a guide call:
  *   2  the time step is not finite or not above 0
  *   3  a waypoint's pitch cap is below 0 (-0 passes, NaN means no cap)
  *   4  a waypoint's pitch, thrust or a number it would store would not be finite
- *   5  a record has fewer bytes than its map demands, or its map is cut short, or the place is past the end
- *   6  a record's map has an unnamed bit, lacks the kind bit, or has half a leg
+ * of a writer:
  *   7  a kind is above 6, or a regime above 1
  *   8  a buffer has too few bytes from the named place, or the place is past its end
- * 255  nuthkolla_run was asked for something that it does not know
  * A refused call changes no guidance and no buffer.
  */
 #ifndef NUTHKOLLA_H
@@ -93,8 +103,8 @@ typedef struct nuthkolla_tecs {
 } nuthkolla_tecs;
 
 /* A guidance is made by nuthkolla_run(.., NUTHKOLLA_NEW, ..) and changed by nuthkolla_run alone. It can be
- * copied, stored and sent as bytes. Other bytes in its place get defined answers too, but none of what is
- * proved about lists of calls holds for them. */
+ * copied, stored and sent as bytes. Other initialised bytes in its place get defined answers too, but none of
+ * what is proved about lists of calls holds for them. */
 typedef struct nuthkolla_guidance {
     nuthkolla_config config;
     uint32_t requested; /* the regime of the last accepted guide call: 0 copter, not 0 plane */
@@ -119,7 +129,7 @@ enum { NUTHKOLLA_UNKNOWN = 255 };
 
 typedef struct nuthkolla_answer {
     uint32_t refusal;  /* 0, or the refusal's number */
-    uint32_t field;    /* of refusal 1 the failing field's number, else 0 */
+    uint32_t field;    /* of refusal 1 the failing field's number, 1 to 33, else 0 */
     uint32_t setpoint; /* 0 none, 1 plane setpoint, 2 plane rate setpoint */
     uint32_t lateral;  /* of a waypoint 1 track, 2 loiter; else 0 */
     uint32_t vertical; /* of a waypoint 1 energy, 2 hold, 3 fallback; else 0 */
@@ -132,14 +142,16 @@ typedef struct nuthkolla_answer {
 
 /* Runs one call on the host's guidance. `bytes` is one record, read from its first byte; bytes behind it are
  * not read, and `next` says where it ended.
- *   NUTHKOLLA_CALL        refusals 5, 6, 7 of the record; 2, 3, 4 of a guide call. A prime answers without a
- *                         setpoint. A guide call answers a setpoint, a waypoint its two laws too.
- *   NUTHKOLLA_SET_CONFIG  refusals 5, 6 of the record; 1 with its field. Integrals and demands are kept.
- *   NUTHKOLLA_NEW         the same refusals; otherwise the guidance becomes a fresh one, whatever it was.
- *                         The struct need not be initialised before, if its bytes can be read.
+ *   NUTHKOLLA_CALL        refusals 5, 6, 7 of the record; then 2, 3, 4 of a guide call. A prime answers without
+ *                         a setpoint. A guide call answers a setpoint, a waypoint its two laws too.
+ *   NUTHKOLLA_SET_CONFIG  refusals 5, 6 of the record; then 1 with its field. Integrals and demands are kept.
+ *   NUTHKOLLA_NEW         the same refusals; otherwise the guidance becomes a fresh one, whatever it was. It is
+ *                         read before, and kept where it is refused, so it has to be initialised:
+ *                         nuthkolla_guidance guidance = {0};
  *   any other number      refusal 255
  * What is proved: the answer and the whole guidance afterwards, for every input, equal the definitions that
- * docs/HOST.md names; of lists of these calls the owner's demand 3 is proved. */
+ * docs/HOST.md names; and of every list of numbers and bytes that is run on a guidance from an accepted
+ * NUTHKOLLA_NEW up to the next one, the owner's demand 3. */
 nuthkolla_answer nuthkolla_run(nuthkolla_guidance *guidance, uint32_t what, const uint8_t *bytes, size_t length);
 
 /* ---- records */
@@ -202,7 +214,7 @@ nuthkolla_config_read nuthkolla_read_config(const uint8_t *bytes, size_t length,
 
 nuthkolla_config nuthkolla_default_config(void);
 
-/* 0, or the number of the first field that fails. */
+/* 0, or the number of the first field that fails, 1 to 33. */
 uint32_t nuthkolla_validate(nuthkolla_config config);
 
 /* The mode report of a guidance, from its `requested`: the mode is always plane; 0, or 1 where the requested

@@ -104,7 +104,7 @@ static int underspeed_after(const entry *e, int before)
  * long. */
 static size_t first_run(const uint8_t *list, size_t length)
 {
-    nuthkolla_guidance g;
+    nuthkolla_guidance g = {0};
     nuthkolla_answer made = nuthkolla_run(&g, NUTHKOLLA_NEW, list, length);
     nuthkolla_config config = nuthkolla_read_config(list, length, 0).config;
     int underspeed = 0;
@@ -137,7 +137,7 @@ static size_t first_run(const uint8_t *list, size_t length)
 static nuthkolla_guidance fresh_with(nuthkolla_config config)
 {
     uint8_t record[NUTHKOLLA_CONFIG_BYTES];
-    nuthkolla_guidance g;
+    nuthkolla_guidance g = {0};
     nuthkolla_place p = nuthkolla_write_config(record, sizeof record, 0, config);
     if (nuthkolla_run(&g, NUTHKOLLA_NEW, record, p.next).refusal != 0) {
         printf("a configuration in force is refused\n");
@@ -165,7 +165,7 @@ static void mark(size_t n)
 
 static int check_struck(const uint8_t *list, size_t length, size_t n)
 {
-    nuthkolla_guidance g;
+    nuthkolla_guidance g = {0};
     nuthkolla_run(&g, NUTHKOLLA_NEW, list, length);
     mark(n);
     for (size_t i = 0; i < n; i++) {

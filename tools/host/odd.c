@@ -59,7 +59,7 @@ int main(int count, char **words)
     nuthkolla_guidance g;
     fill_words(&g, sizeof g / 4);
     for (unsigned long n = 0; n < calls; n++) {
-        uint8_t record[NUTHKOLLA_CONFIG_BYTES];
+        uint8_t record[NUTHKOLLA_CONFIG_BYTES] = {0};
         size_t length = sizeof record;
         uint32_t what = any() % 8 < 6 ? 0 : any() % 4;
         if (any() % 16 == 0)

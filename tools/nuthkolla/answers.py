@@ -4,11 +4,13 @@ import re
 from typing import NamedTuple
 
 from nuthkolla.record import MOST_CALLS
+from nuthkolla.settings import first_failing
 
 NUMBERS = {"plane": 3, "rate": 4, "prime": 0}
 LATERAL = ("track", "loiter")
 VERTICAL = ("energy", "hold", "fallback")
 WORD = re.compile(r"[0-9a-f]{8}", re.ASCII)
+ENDING = re.compile(r"config refused ([1-9]|[12][0-9]|3[0-3])|config stopped [56]|[0-9]+ stopped [5679]", re.ASCII)
 
 # Which answers a kind of call may get, beside a refusal.
 ANSWERS_TO = {
@@ -52,12 +54,17 @@ def answer_of(words):
     raise ValueError("this is no line of the desk program")
 
 
+def ends(words, n):
+    """Whether line n is one that ends a replay early."""
+    return words and bool(ENDING.fullmatch(" ".join(words))) and (words[0] == str(n) or words[0] == "config" and n == 1)
+
+
 def read_lines(text):
     """The answers in order, and the words of the line that ended them early, or none."""
     answers = []
     for n, line in enumerate(text.splitlines(), 1):
         words = line.split()
-        if words[:1] == ["config"] and n == 1 or words[:2] == [str(n), "stopped"]:
+        if ends(words, n):
             return answers, words
         try:
             if len(words) < 2 or words[0] != str(n):
@@ -68,8 +75,23 @@ def read_lines(text):
     return answers, None
 
 
-def check_match(calls, answers):
-    """Fails unless these are answers to these calls."""
+def configuration_ending(configuration, refusal):
+    """How a replay ends before any call, as a line says it; none where the configuration passes."""
+    if configuration is None:
+        return ["config", "stopped", str(refusal.number)]
+    failing = first_failing(configuration)
+    return ["config", "refused", str(failing)] if failing else None
+
+
+def check_match(recording, lines):
+    """Fails unless these lines, as read_lines gives them, answer this recording, as read_recording gives it."""
+    configuration, calls, refusal = recording
+    answers, ending = lines
+    wanted = configuration_ending(configuration, refusal)
+    if wanted != (ending if ending and ending[0] == "config" else None):
+        raise BadLines("the configuration does not fit the lines")
+    if wanted:
+        return
     read = min(len(calls), MOST_CALLS)
     if len(answers) != read:
         raise BadLines(f"there are {len(answers)} answers to {read} calls")

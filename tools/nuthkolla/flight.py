@@ -3,16 +3,16 @@
 import statistics
 from typing import NamedTuple
 
+from nuthkolla.answers import Answer
 from nuthkolla.numbers import is_finite, value
 from nuthkolla.record import Call
-from nuthkolla.answers import Answer
 
 # A time step that is longer than so many usual ones would leave no room for the rest.
 LONGEST_STEP = 50
 
 
 class Moment(NamedTuple):
-    """A call and its answer. place: north and east of the plane as last reported, or none."""
+    """A call and its answer. place: north and east of the plane as the call reports it, or none."""
 
     number: int
     time: float
@@ -28,6 +28,11 @@ class Moment(NamedTuple):
     def law(self):
         """energy, hold or fallback; none for what is no accepted waypoint call."""
         return self.answer.laws[1] if self.answer.laws else None
+
+    def number_of(self, name, at=0):
+        """A finite number of the call; none where it has none."""
+        bits = self.call.numbers.get(name, ())[at : at + 1]
+        return value(bits[0]) if bits and is_finite(bits[0]) else None
 
 
 class Aim(NamedTuple):
@@ -62,12 +67,11 @@ def time_steps(calls):
 
 
 def moments(calls, answers):
-    time, place, found = 0.0, None, []
+    time, found = 0.0, []
     for number, (call, answer, step) in enumerate(zip(calls, answers, time_steps(calls)), 1):
         if number > 1:
             time += step
-        if call.kind == "waypoint":
-            place = finite_values(call.numbers["position"][:2]) or place
+        place = finite_values(call.numbers["position"][:2]) if call.kind == "waypoint" else None
         found.append(Moment(number, time, call, answer, place))
     return found
 
@@ -89,3 +93,33 @@ def aims(flown):
                 if moment.place:
                     found[aim].append(moment.place)
     return found
+
+
+class Run(NamedTuple):
+    """A number over time without a gap: (time, number) at each call, and the time at which it ends."""
+
+    steps: list
+    end: float
+
+
+def runs(flown, number_of):
+    """The runs of a number: number_of(moment) is it, or none where a call ends it."""
+    found, open_run = [], None
+    for moment in flown:
+        number = number_of(moment)
+        if number is not None:
+            if open_run is None:
+                open_run = []
+                found.append(open_run)
+            open_run.append((moment.time, number))
+        elif open_run is not None:
+            found[-1] = Run(open_run, moment.time)
+            open_run = None
+    if open_run is not None:
+        found[-1] = Run(open_run, flown[-1].time)
+    return found
+
+
+def in_force(flown):
+    """The calls whose answers are in force in turn: a refused call and a prime leave the one before."""
+    return [moment for moment in flown if not moment.refused and moment.answer.kind != "prime"]

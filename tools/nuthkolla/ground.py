@@ -1,120 +1,174 @@
-"""The map of the page: the track over ground, and what the calls aim at."""
+"""The map of the page: the track over ground, what the calls aim at, and in words what is not on the map."""
 
+import collections
 import math
+import textwrap
 
-from nuthkolla.flight import aims
+from nuthkolla.flight import aim_of, aims
 from nuthkolla.numbers import value
-from nuthkolla.svg import Scale, add, cross, label, line, path, square, steps
-
-MAP = (78, 110, 560, 730)  # left, top, right, bottom
+from nuthkolla.svg import LEAST_SPAN, Scale, add, clipped, cross, frame, head, label, line, path, square, steps, usual_span
 
 # More numbers than this on the map would hide it.
 MOST_NAMES = 40
+# So many of the page's units between two heads on the track.
+BETWEEN_HEADS = 110.0
+# Beyond this a double no longer tells metres from each other.
+FARTHEST = 1e12
+MOST_LISTED = 6
+NOTE_WIDTH = 76  # letters
 
 
-def usual_span(values):
-    """The span of values without those that lie far off the others."""
-    ordered = sorted(values)
-    low, high = ordered[len(ordered) // 20], ordered[-1 - len(ordered) // 20]
-    room = 2 * max(high - low, 20.0)
-    near = [v for v in ordered if low - room <= v <= high + room]
-    return near[0], near[-1]
+class Ground:
+    """The map's scales, in a box (left, top, right, bottom) of the page: equal metres east and north."""
+
+    def __init__(self, flown, configuration, box):
+        self.flown, self.box = flown, box
+        self.aimed, self.radius = aims(flown), value(configuration["loiter_radius_m"])
+        places = [m.place for m in flown if m.place]
+        corners = []
+        for at, leg in self.aimed:
+            reach = 0 if leg else self.radius
+            corners += [(at[0] + side, at[1] + side) for side in (-reach, reach)]
+        self.scale_to(places or corners or [(0.0, 0.0)], corners)
+
+    def scale_to(self, places, corners):
+        """The places that are not far off the others, and of the corners those that are near them."""
+        left, top, right, bottom = self.box
+        (south, north), (west, east) = (
+            usual_span([p[axis] for p in places], [c[axis] for c in corners]) for axis in (0, 1)
+        )
+        metres = max((north - south) / (bottom - top), (east - west) / (right - left), 0.05) * 1.12
+        metres = max(metres, LEAST_SPAN * max(map(abs, (south, north, west, east))))
+        middle_n, middle_e = (south + north) / 2, (west + east) / 2
+        half_n, half_e = metres * (bottom - top) / 2, metres * (right - left) / 2
+        self.metres = metres
+        self.east = Scale((middle_e - half_e, middle_e + half_e), (left, right))
+        self.north = Scale((middle_n - half_n, middle_n + half_n), (bottom, top))
+
+    def within(self, place):
+        return place is not None and self.north.within(place[0]) and self.east.within(place[1])
+
+    def __call__(self, place):
+        """The page's place of a place north and east."""
+        return self.east(place[1]), self.north(place[0])
+
+    def circle(self):
+        """A loiter's radius on the page; 0 where its circle would be far larger than the map."""
+        size = self.radius / self.metres
+        return size if 0 < size <= 4 * (self.box[3] - self.box[1]) else 0.0
 
 
-def map_scales(flown, aimed, radius):
-    """Scales for east and north with equal metres."""
-    places = [m.place for m in flown if m.place]
-    for at, leg in aimed:
-        reach = 0 if leg else radius
-        places += [(at[0] + side, at[1] + side) for side in (-reach, reach)]
-    places = places or [(0.0, 0.0)]
-    left, top, right, bottom = MAP
-    (south, north), (west, east) = (usual_span([p[axis] for p in places]) for axis in (0, 1))
-    metres = max((north - south) / (bottom - top), (east - west) / (right - left), 0.05) * 1.12
-    middle_n, middle_e = (south + north) / 2, (west + east) / 2
-    half_n, half_e = metres * (bottom - top) / 2, metres * (right - left) / 2
-    return Scale((middle_e - half_e, middle_e + half_e), (left, right)), Scale(
-        (middle_n - half_n, middle_n + half_n), (bottom, top)
-    )
-
-
-def draw_map_axes(page, east, north):
-    left, top, right, bottom = MAP
-    for v in steps(east.low, east.high, 7):
-        line(page, "grid", east(v), top, east(v), bottom)
-        label(page, "soft middle", east(v), bottom + 18, f"{v:g}")
-    for v in steps(north.low, north.high, 9):
-        line(page, "grid", left, north(v), right, north(v))
-        label(page, "soft end", left - 7, north(v) + 4, f"{v:g}")
+def draw_map_axes(page, ground):
+    left, top, right, bottom = ground.box
+    for v in steps(ground.east.low, ground.east.high, 7):
+        line(page, "grid", ground.east(v), top, ground.east(v), bottom)
+        label(page, "soft middle", ground.east(v), bottom + 18, f"{v:g}")
+    for v in steps(ground.north.low, ground.north.high, 9):
+        line(page, "grid", left, ground.north(v), right, ground.north(v))
+        label(page, "soft end", left - 7, ground.north(v) + 4, f"{v:g}")
     label(page, "ink name", left, top - 12, "Track over ground, north is up")
     label(page, "ink middle", (left + right) / 2, bottom + 38, "metres east")
     x, y = left - 56, (top + bottom) / 2
     label(page, "ink middle", x, y, "metres north", transform=f"rotate(-90 {x} {y})")
 
 
-def leg_ends(at, leg, places):
-    """The part of a leg's line that was flown, and its point: as metres along the leg from the point."""
+# ---- aims
+
+
+def direction(leg):
+    """A leg's direction, of length 1; none for a leg without a length."""
     length = math.hypot(*leg)
-    if length == 0:
-        return None
-    unit = (leg[0] / length, leg[1] / length)
+    return (leg[0] / length, leg[1] / length) if length else None
+
+
+def leg_ends(at, unit, places, reach):
+    """The part of a leg's line that was flown, and its point where that is near: metres along the leg from the point."""
     along = [(p[0] - at[0]) * unit[0] + (p[1] - at[1]) * unit[1] for p in places]
-    return unit, min([0.0, *along]), max([0.0, *along])
+    along = [d for d in along if abs(d) <= FARTHEST] + ([0.0] if reach else [])
+    return (min(along), max(along)) if along else None
 
 
-def draw_leg(group, at, leg, places, east, north):
-    ends = leg_ends(at, leg, places)
+def draw_leg(group, at, leg, places, ground):
+    unit = direction(leg)
+    inside = ground.within(at)
+    near = [p for p in places if ground.within(p)]
+    ends = unit and leg_ends(at, unit, near, inside)
     if not ends:
         return
-    (n, e), first, last = ends
-    reach = 2 * (north.high - north.low + east.high - east.low)
-    tail, tip = ((at[1] + d * e, at[0] + d * n) for d in (max(first, -reach), min(last, reach)))
-    line(group, "aim leg", east.place(tail[0]), north.place(tail[1]), east.place(tip[0]), north.place(tip[1]))
-    x, y = east.place(at[1]), north.place(at[0])
-    corners = [(x + 9 * e, y - 9 * n), (x - 5 * e - 5 * n, y + 5 * n - 5 * e), (x - 5 * e + 5 * n, y + 5 * n + 5 * e)]
-    path(group, "head", corners + corners[:1])
+    tail, tip = (ground((at[0] + d * unit[0], at[1] + d * unit[1])) for d in ends)
+    line(group, "aim leg", *tail, *tip)
+    if inside:
+        x, y = ground(at)
+        head(group, "head", (x + 9 * unit[1], y - 9 * unit[0]), (unit[1], -unit[0]), 14)
 
 
-def drawn_radius(radius, east):
-    return min(radius * (east.end - east.start) / (east.high - east.low), 1e5)
-
-
-def draw_circle(group, at, radius, east, north):
-    x, y = east.place(at[1]), north.place(at[0])
-    add(group, "circle", "aim loiter", cx=x, cy=y, r=drawn_radius(radius, east))
+def draw_circle(group, at, ground):
+    """A loiter's circle, with heads that show its sense: clockwise, seen from above."""
+    (x, y), size = ground(at), ground.circle()
+    if size:
+        add(group, "circle", "aim loiter", cx=x, cy=y, r=size)
     path(group, "aim centre", [(x - 6, y), (x + 6, y)])
     path(group, "aim centre", [(x, y - 6), (x, y + 6)])
+    for turn in (math.radians(60), math.radians(180), math.radians(300)):
+        if size > 10:
+            tip = (x + size * math.sin(turn), y - size * math.cos(turn))
+            head(group, "head", tip, (math.cos(turn), math.sin(turn)), 11)
 
 
-def draw_aims(group, aimed, radius, east, north):
-    for (at, leg), places in aimed.items():
-        if not (east.within(at[1]) and north.within(at[0])):
-            continue
+def draw_aims(group, ground):
+    for (at, leg), places in ground.aimed.items():
         if leg:
-            draw_leg(group, at, leg, places, east, north)
-        else:
-            draw_circle(group, at, radius, east, north)
+            draw_leg(group, at, leg, places, ground)
+        elif ground.within(at):
+            draw_circle(group, at, ground)
 
 
-def draw_aim_numbers(group, aimed, radius, east, north):
+def draw_aim_numbers(group, ground):
     """The aims' numbers in the order of their first calls: beside a leg's point, below a circle."""
-    if len(aimed) > MOST_NAMES:
+    if len(ground.aimed) > MOST_NAMES:
         return
-    size = drawn_radius(radius, east)
-    for number, (at, leg) in enumerate(aimed, 1):
-        if not (east.within(at[1]) and north.within(at[0])):
-            continue
-        x, y = east.place(at[1]), north.place(at[0])
-        if leg:
-            label(group, "ink name over", x + 10, y - 9, f"{number}")
+    numbers = collections.defaultdict(list)
+    for number, (at, leg) in enumerate(ground.aimed, 1):
+        if ground.within(at):
+            numbers[at, leg is None].append(number)
+    left, _, right, _ = ground.box
+    for (at, circle), found in numbers.items():
+        (x, y), words = ground(at), listed(found)
+        if circle:
+            x = min(max(x, left + 80), right - 80)
+            label(group, "ink name over middle", x, y + ground.circle() + 18, f"{words} loiter, {ground.radius:.3g} m")
         else:
-            label(group, "ink name over middle", x, y + size + 18, f"{number} loiter, {radius:g} m")
+            label(group, "ink name over", x + 10, y - 9, words)
 
 
-def draw_point(group, moment, east, north):
+# ---- the track
+
+
+def tracks(ground):
+    """The track in parts: a command of another kind, or a place that is not on the map, ends a part."""
+    parts = [[]]
+    for moment in ground.flown:
+        if moment.law and ground.within(moment.place):
+            parts[-1].append(ground(moment.place))
+        elif not moment.refused and moment.answer.kind != "prime":
+            parts.append([])
+    return [part for part in parts if len(part) > 1]
+
+
+def draw_heads(group, part):
+    """Heads along the track that show which way it was flown."""
+    walked = BETWEEN_HEADS / 2
+    for (x, y), (after_x, after_y) in zip(part, part[1:]):
+        length = math.hypot(after_x - x, after_y - y)
+        walked += length
+        if length > 0 and walked >= BETWEEN_HEADS:
+            walked = 0.0
+            head(group, "way", (after_x, after_y), ((after_x - x) / length, (after_y - y) / length), 10)
+
+
+def draw_point(group, moment, ground):
     """The point of an accepted waypoint call, by its law."""
-    n, e = moment.place or (north.low, east.low)
-    x, y = east(e), north(n)
+    x, y = ground(moment.place)
     if moment.law == "hold":
         square(group, "point hold", x, y, 3)
     elif moment.law == "fallback":
@@ -123,33 +177,100 @@ def draw_point(group, moment, east, north):
         add(group, "circle", "point energy", cx=x, cy=y, r=1.9)
 
 
-def draw_ends(group, flown, east, north):
-    placed = [m for m in flown if m.law and m.place]
+def draw_track(group, ground):
+    for part in tracks(ground):
+        path(group, "line track", part)
+        draw_heads(group, part)
+    for moment in ground.flown:
+        if moment.law and ground.within(moment.place):
+            draw_point(group, moment, ground)
+    for moment in ground.flown:
+        if moment.refused and ground.within(moment.place):
+            cross(group, "place refused", *ground(moment.place), 5)
+
+
+def draw_ends(group, ground):
+    placed = [m for m in ground.flown if m.law and ground.within(m.place)]
     for word, css, aside, found in (("first", "", 8, placed[:1]), ("last", " end", -8, placed[-1:])):
         for m in found:
-            x, y = east(m.place[1]) + aside, north(m.place[0]) + 4
-            label(group, f"ink small over{css}", x, y, f"{word}: call {m.number}")
+            x, y = ground(m.place)
+            label(group, f"ink small over{css}", x + aside, y + 4, f"{word}: call {m.number}")
 
 
-def draw_map(page, flown, configuration):
-    aimed, radius = aims(flown), value(configuration["loiter_radius_m"])
-    east, north = map_scales(flown, aimed, radius)
-    draw_map_axes(page, east, north)
-    left, top, right, bottom = MAP
-    clip = add(add(page, "defs", None), "clipPath", None, id="map")
-    add(clip, "rect", None, x=left, y=top, width=right - left, height=bottom - top)
-    group = add(page, "g", None, clip_path="url(#map)")
-    draw_aims(group, aimed, radius, east, north)
-    track = [(east(m.place[1]), north(m.place[0])) for m in flown if m.law and m.place]
-    if len(track) > 1:
-        path(group, "line track", track)
-    for moment in flown:
-        if moment.law:
-            draw_point(group, moment, east, north)
-    for moment in flown:
-        if moment.refused:
-            n, e = moment.place or (north.low, east.low)
-            cross(group, "place refused", east(e), north(n), 5)
-    draw_aim_numbers(group, aimed, radius, east, north)
-    draw_ends(group, flown, east, north)
-    add(page, "rect", "frame", x=left, y=top, width=right - left, height=bottom - top)
+def draw_map(page, ground):
+    draw_map_axes(page, ground)
+    group = clipped(page, "map", ground.box)
+    draw_aims(group, ground)
+    draw_track(group, ground)
+    draw_aim_numbers(group, ground)
+    draw_ends(group, ground)
+    frame(page, "frame", ground.box)
+
+
+# ---- what is not on the map
+
+
+def listed(numbers):
+    """Numbers in words: runs as `7 to 9`, and how many more there are."""
+    parts = []
+    for number in numbers:
+        if parts and parts[-1][1] == number - 1:
+            parts[-1][1] = number
+        else:
+            parts.append([number, number])
+    words = [f"{a}" if a == b else f"{a} to {b}" if b > a + 1 else f"{a}, {b}" for a, b in parts[:MOST_LISTED]]
+    left = sum(b - a + 1 for a, b in parts[MOST_LISTED:])
+    return ", ".join(words) + (f" and {left} more" if left else "")
+
+
+def of_calls(found, what):
+    return f"{len(found)} call{'s' * (len(found) > 1)} {what}: {listed([m.number for m in found])}" if found else None
+
+
+def aim_notes(ground):
+    outside = [(n, aim) for n, aim in enumerate(ground.aimed, 1) if not ground.within(aim.at)]
+    notes = []
+    for n, (at, leg) in outside[:MOST_LISTED]:
+        what = "leg through" if leg else f"loiter, {ground.radius:.3g} m, round"
+        notes.append(f"aim {n}, a {what} {at[0]:g} m north, {at[1]:g} m east")
+    if outside[MOST_LISTED:]:
+        notes.append(f"{len(outside) - MOST_LISTED} more aims")
+    if not ground.circle() and any(leg is None for _, leg in ground.aimed):
+        notes.append(f"circles of {ground.radius:.3g} m, far larger than the map")
+    lost = [m for m in ground.flown if m.call.kind == "waypoint" and not aim_of(m.call)]
+    return notes + [of_calls(lost, "with an aim that is not finite")]
+
+
+def map_notes(ground):
+    """In words: the calls and the aims that are not on the map."""
+    waypoints = [m for m in ground.flown if m.call.kind == "waypoint" and not ground.within(m.place)]
+    others = [m for m in ground.flown if m.refused and m.call.kind != "waypoint"]
+    notes = [
+        of_calls([m for m in waypoints if m.place is None], "with a position that is not finite"),
+        of_calls([m for m in waypoints if m.place], "with a position far off the others"),
+        of_calls(others, "refused, of a kind that reports no position"),
+        *aim_notes(ground),
+    ]
+    return [note for note in notes if note]
+
+
+def told_counts(ground):
+    """How many points and refused places are told and not drawn, for whoever counts them."""
+    told = [m for m in ground.flown if (m.law or m.refused) and not ground.within(m.place)]
+    counts = collections.Counter(m.law or "refused" for m in told)
+    return {f"data_{name}": counts[name] for name in ("energy", "hold", "fallback", "refused")}
+
+
+def draw_notes(page, ground, stopped, left, top):
+    """Lines below the map: what stopped the replay, and what is not on the map; the place after them."""
+    group = add(page, "g", "told", **told_counts(ground))
+    notes = map_notes(ground)
+    heads = [("The replay stopped", [stopped])] if stopped else []
+    for title, lines in heads + ([("Not on the map", notes)] if notes else []):
+        label(group, "ink name", left, top, title)
+        for note in lines:
+            for n, text in enumerate(textwrap.wrap(note, NOTE_WIDTH)):
+                top += 18
+                label(group, "ink small", left + (12 if n else 0), top, text)
+        top += 26
+    return top

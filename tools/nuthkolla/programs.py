@@ -11,7 +11,7 @@ ORACLE = pathlib.Path(os.environ.get("ORACLE", ROOT / "target/oracle/oracle"))
 
 
 class Missing(Exception):
-    """A program that is not built, or not from the present sources."""
+    """A program that is not built, or not from the present sources, or that failed."""
 
 
 def oracle_command(mode):
@@ -43,4 +43,8 @@ def desk_command():
 
 
 def run(command, data):
-    return subprocess.run(command, input=data, capture_output=True, check=True).stdout
+    done = subprocess.run(command, input=data, capture_output=True)
+    if done.returncode:
+        said = done.stderr.decode(errors="replace").strip()
+        raise Missing(f"{command[0]} ended with status {done.returncode}{': ' * bool(said)}{said}")
+    return done.stdout

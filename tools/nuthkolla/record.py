@@ -2,7 +2,8 @@
 
 from typing import NamedTuple
 
-from nuthkolla.numbers import from_decimal, one_nan
+from nuthkolla.numbers import one_nan
+from nuthkolla.settings import SETTINGS
 
 # What a refusal of a record says. The desk program gives the same numbers.
 REFUSALS = {
@@ -12,8 +13,9 @@ REFUSALS = {
 }
 SHORT, BAD_MAP, BAD_BYTE = REFUSALS
 
-# The desk program reads this many calls.
+# The desk program reads this many calls, and so many bytes of a recording at most.
 MOST_CALLS = 4096
+MOST_BYTES = 137 + 86 * MOST_CALLS + 1
 
 
 class Refusal(Exception):
@@ -53,45 +55,8 @@ def fields_bytes(fields, map_bytes, sizes):
 
 # ---- configuration
 
-# An angle of n degrees is the one product n · DEG, with DEG = PI / 180.
-DEGREES_20, DEGREES_25, DEGREES_45, DEGREES_180 = 0x3EB2B8C2, 0x3EDF66F3, 0x3F490FDB, 0x40490FDB
-
 # The 33 numbers in the order of their numbers, field 1 first, with their Default values.
-CONFIGURATION = {
-    "max_bank_rad": DEGREES_45,
-    "max_pitch_up_rad": DEGREES_20,
-    "max_pitch_down_rad": DEGREES_25,
-    "max_rate_radps.x": DEGREES_180,
-    "max_rate_radps.y": DEGREES_180,
-    "max_rate_radps.z": from_decimal("0"),
-    "trim_pitch_rad": from_decimal("0"),
-    "cruise_thrust": from_decimal("0.5"),
-    "l1_period_s": from_decimal("12"),
-    "l1_damping": from_decimal("0.75"),
-    "loiter_radius_m": from_decimal("40"),
-    "altitude_p": from_decimal("0.05"),
-    "altitude_i": from_decimal("0.01"),
-    "altitude_max_integral": from_decimal("20"),
-    "time_constant_s": from_decimal("5"),
-    "max_climb_mps": from_decimal("5"),
-    "min_sink_mps": from_decimal("2"),
-    "max_sink_mps": from_decimal("5"),
-    "thrust_damping": from_decimal("0.5"),
-    "integrator_gain": from_decimal("0.3"),
-    "pitch_damping": from_decimal("0.3"),
-    "pitch_integrator_gain": from_decimal("0.2"),
-    "speed_weight": from_decimal("1"),
-    "roll_compensation": from_decimal("10"),
-    "min_airspeed_mps": from_decimal("10"),
-    "max_airspeed_mps": from_decimal("25"),
-    "underspeed_share": from_decimal("0.9"),
-    "height_demand_time_constant_s": from_decimal("3"),
-    "airspeed_rate_time_constant_s": from_decimal("0.5"),
-    "kinetic_rate_high_pass_s": from_decimal("1"),
-    "min_thrust": from_decimal("0.2"),
-    "max_thrust": from_decimal("1"),
-    "climb_thrust_per_rad": from_decimal("0.5"),
-}
+CONFIGURATION = {setting.name: setting.default for setting in SETTINGS}
 CONFIGURATION_MAP_BYTES = 5
 CONFIGURATION_SIZES = [4] * len(CONFIGURATION)
 

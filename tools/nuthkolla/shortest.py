@@ -2,7 +2,7 @@
 
 from nuthkolla import record
 
-CONFIGURATION, CALL = 1, 0
+CALL, CONFIGURATION = 0, 1
 
 
 def calls_of(data, tagged):

@@ -1,49 +1,218 @@
-"""The page's strips over time: refused, held and fallback calls, then roll, pitch and thrust."""
+"""The page's strips over time: marks of calls, the setpoint with its limits, and what the sensors report."""
 
 import math
+from collections.abc import Callable
+from typing import NamedTuple
 
+from nuthkolla.flight import in_force, runs
 from nuthkolla.numbers import is_finite, value
-from nuthkolla.svg import Scale, add, cross, label, line, path, square, steps
+from nuthkolla.svg import Scale, add, cross, frame, label, line, path, square, steps, usual_span
 
-STRIPS_LEFT, STRIPS_RIGHT = 668, 1140
-BAND = (110, 154)  # top, bottom
-STRIPS = {"roll": (188, 348), "pitch": (382, 542), "thrust": (576, 730)}
-UNITS = {
-    "roll": ("Roll", "degrees, right is positive"),
-    "pitch": ("Pitch", "degrees, nose up is positive"),
-    "thrust": ("Thrust", "share of full thrust"),
-}
+STRIP_HEIGHT, STRIP_GAP = 112, 34
 
 
-def runs(flown, law):
-    """Spans of time in which one law after the other answered: from its first call to the next other one."""
-    start = None
-    for moment in flown:
-        if moment.law == law and start is None:
-            start = moment.time
-        elif moment.law != law and not moment.refused and start is not None:
-            yield start, moment.time
-            start = None
-    if start is not None:
-        yield start, flown[-1].time
+# ---- the quantities
 
 
-def draw_spans(page, flown, time, top, bottom):
+def limit_under(limit, call):
+    """The limit under the call's cap, where it has one that is a number."""
+    bits = call.numbers.get("cap", ())
+    cap = value(bits[0]) if bits else math.nan
+    return limit if math.isnan(cap) or cap < 0 else min(limit, cap)
+
+
+def roll_limits(of, moment):
+    return (-math.degrees(of["max_bank_rad"]), math.degrees(of["max_bank_rad"])) if moment.law else None
+
+
+def pitch_limits(of, moment):
+    """A hold's pitch is the trim, whatever the limits."""
+    if moment.law in (None, "hold"):
+        return None
+    down, up = (limit_under(of[name], moment.call) for name in ("max_pitch_down_rad", "max_pitch_up_rad"))
+    return -math.degrees(down), math.degrees(up)
+
+
+def thrust_limits(of, moment):
+    """A hold's thrust is the cruise thrust, whatever the limits."""
+    return None if moment.law in (None, "hold") else (of["min_thrust"], max(of["max_thrust"], of["min_thrust"]))
+
+
+def setpoint(at, shown):
+    """The number of an answer at a place, as it is shown; a rate setpoint has thrust alone."""
+
+    def number(moment):
+        answer = moment.answer
+        if answer.kind not in ("plane", "waypoint") and not (answer.kind == "rate" and at == 2):
+            return None
+        bits = answer.numbers[3 if answer.kind == "rate" else at]
+        return shown(value(bits)) if is_finite(bits) else None
+
+    return number
+
+
+def no_limits(of, moment):
+    return None
+
+
+def no_demand(moment):
+    return None
+
+
+class Strip(NamedTuple):
+    """One quantity over time. answer: whether it is part of answers, which stay in force, or reported with each call."""
+
+    name: str
+    title: str
+    unit: str
+    answer: bool
+    number: Callable
+    limits: Callable = no_limits
+    demand: Callable = no_demand
+
+
+STRIPS = [
+    Strip("roll", "Roll, degrees, right (starboard) is positive", "°", True, setpoint(0, math.degrees), roll_limits),
+    Strip("pitch", "Pitch, degrees, nose up is positive", "°", True, setpoint(1, math.degrees), pitch_limits),
+    Strip("thrust", "Thrust, share of full thrust", "", True, setpoint(2, float), thrust_limits),
+    Strip(
+        "height",
+        "Height, metres",
+        " m",
+        False,
+        lambda m: m.number_of("position", 2),
+        demand=lambda m: m.number_of("altitude"),
+    ),
+    Strip(
+        "airspeed",
+        "Airspeed, metres a second",
+        " m/s",
+        False,
+        lambda m: m.number_of("airspeed"),
+        demand=lambda m: m.number_of("cruise"),
+    ),
+]
+
+
+# ---- a strip
+
+
+class Column:
+    """Where the strips stand: left and right edge, and the scale of time."""
+
+    def __init__(self, flown, left, right):
+        self.flown, self.left, self.right = flown, left, right
+        self.time = Scale((0.0, max(flown[-1].time, 1.0)), (left, right))
+
+    def box(self, top, height):
+        return self.left, top, self.right, top + height
+
+
+def draw_spans(page, column, top, bottom):
     """Grey where the answers were holds; a dotted line where a call was refused."""
-    for first, last in runs(flown, "hold"):
-        width = max(time(last) - time(first), 1.0)
-        add(page, "rect", "span", x=time(first), y=top, width=width, height=bottom - top)
-    for moment in flown:
+    held = lambda m: 1 if m.law == "hold" else None
+    for run in runs([m for m in column.flown if not m.refused], held):
+        first, last = column.time(run.steps[0][0]), column.time(run.end)
+        add(page, "rect", "span", x=first, y=top, width=max(last - first, 1.0), height=bottom - top)
+    for moment in column.flown:
         if moment.refused:
-            line(page, "refused through", time(moment.time), top, time(moment.time), bottom)
+            x = column.time(moment.time)
+            line(page, "refused through", x, top, x, bottom)
 
 
-def refusal_groups(flown, time):
+def strip_span(strip, limits, numbers, demands):
+    """The least and the greatest that a strip shows: its limits, and what is not far off the rest."""
+    if strip.name == "thrust":
+        return -0.05, 1.05
+    if strip.unit == "°":
+        shown = [v for v in numbers if abs(v) <= 180]
+    else:
+        shown = usual_span(numbers or demands, demands) if numbers or demands else ()
+    ends = [end for pair in limits for end in pair] + list(shown) or [0.0]
+    room = max(0.12 * (max(ends) - min(ends)), 1.0)
+    return min(ends) - room, max(ends) + room
+
+
+def stairs(run, column, scale):
+    """Points of a line that keeps each number until the next time, the last call's to the end."""
+    end = column.time.high if run.steps[-1][0] == column.flown[-1].time else run.end
+    points = []
+    for (time, number), (after, _) in zip(run.steps, [*run.steps[1:], (end, None)]):
+        points += [(column.time(time), scale(number)), (column.time(after), scale(number))]
+    return points
+
+
+def end_label(page, column, y, text):
+    label(page, "ink small", column.right + 6, y + 4, text)
+
+
+def draw_limits(page, strip, column, limits, scale):
+    """limits: (moment, pair or none) of each answer in force."""
+    pairs = {m.number: pair for m, pair in limits if pair and all(map(scale.within, pair))}
+    if not pairs:
+        return
+    for side in (0, 1):
+        for run in runs([m for m, _ in limits], lambda m: pairs.get(m.number, (None, None))[side]):
+            path(page, "limit", stairs(run, column, scale))
+    low, high = list(pairs.values())[-1]
+    if abs(scale(low) - scale(high)) < 14:
+        end_label(page, column, scale(high), f"limits {low:.3g}, {high:.3g}{strip.unit}")
+        return
+    for end in (low, high):
+        end_label(page, column, scale(end), f"limit {end:.3g}{strip.unit}")
+
+
+def draw_demand(page, strip, column, scale):
+    found = runs([m for m in column.flown if m.call.kind != "prime"], lambda m: inside(strip.demand(m), scale))
+    for run in found:
+        path(page, "demand", stairs(run, column, scale))
+    if found:
+        last = found[-1].steps[-1][1]
+        end_label(page, column, scale(last), f"demand {last:.3g}{strip.unit}")
+
+
+def inside(number, scale):
+    return number if number is not None and scale.within(number) else None
+
+
+def outside_words(numbers, scale):
+    count = sum(not scale.within(v) for v in numbers)
+    return f"; {count} call{'s' * (count > 1)} outside the strip" if count else ""
+
+
+def draw_strip(page, strip, column, configuration, top):
+    # A prime takes no time and reports nothing.
+    flown = in_force(column.flown) if strip.answer else [m for m in column.flown if m.call.kind != "prime"]
+    of = {name: value(bits) for name, bits in configuration.items()}
+    limits = [(m, strip.limits(of, m)) for m in flown]
+    numbers, demands = ([v for v in map(part, flown) if v is not None] for part in (strip.number, strip.demand))
+    box = column.box(top, STRIP_HEIGHT)
+    bottom = box[3]
+    span = strip_span(strip, [pair for _, pair in limits if pair], numbers, demands)
+    scale = Scale(span, (bottom, top))
+    draw_spans(page, column, top, bottom)
+    for v in steps(scale.low, scale.high, 6):
+        line(page, "grid", column.left, scale(v), column.right, scale(v))
+        label(page, "soft end", column.left - 7, scale(v) + 4, f"{v:g}")
+    group = add(page, "g", f"strip-{strip.name}")
+    draw_limits(group, strip, column, limits, scale)
+    draw_demand(group, strip, column, scale)
+    for run in runs(flown, lambda m: inside(strip.number(m), scale)):
+        path(group, f"line {strip.name}", stairs(run, column, scale))
+    label(page, "ink", column.left, top - 9, strip.title + outside_words(numbers, scale))
+    frame(page, "frame", box)
+    return scale
+
+
+# ---- the band of marks
+
+
+def refusal_groups(column):
     """Refused calls whose marks nearly touch: the page's place of each, and the refusals' numbers."""
     groups = []
-    for moment in flown:
+    for moment in column.flown:
         if moment.refused:
-            x = time(moment.time)
+            x = column.time(moment.time)
             if groups and x - groups[-1][0][-1] < 16:
                 groups[-1][0].append(x)
                 groups[-1][1].append(moment.answer.refusal)
@@ -52,127 +221,58 @@ def refusal_groups(flown, time):
     return groups
 
 
-def draw_refusal_marks(page, flown, time, y):
-    for places, numbers in refusal_groups(flown, time):
+def draw_refusal_marks(page, column, y):
+    for places, numbers in refusal_groups(column):
         for x in places:
             cross(page, "mark refused", x, y, 4)
         text = ", ".join(map(str, dict.fromkeys(numbers)))
         label(page, "ink small", places[-1] + 8, y + 4, text)
 
 
-def draw_band(page, flown, time):
-    """A mark for each refused call, each hold and each fallback."""
-    top, bottom = BAND
-    upper, lower = top + 13, bottom - 12
-    label(page, "ink name", STRIPS_LEFT, top - 12, "Calls that were refused, held or fell back")
-    label(page, "soft end", STRIPS_LEFT - 7, upper + 4, "refused")
-    label(page, "soft end", STRIPS_LEFT - 7, lower + 4, "held, fell back")
-    line(page, "grid", STRIPS_LEFT, (top + bottom) / 2, STRIPS_RIGHT, (top + bottom) / 2)
-    draw_refusal_marks(page, flown, time, upper)
-    for moment in flown:
-        x = time(moment.time)
+def draw_law_marks(page, column, lower):
+    for moment in column.flown:
+        x = column.time(moment.time)
         if moment.law == "hold":
             square(page, "mark hold", x, lower, 3)
         elif moment.law == "fallback":
             add(page, "circle", "mark fallback", cx=x, cy=lower, r=3)
-    add(page, "rect", "frame", x=STRIPS_LEFT, y=top, width=STRIPS_RIGHT - STRIPS_LEFT, height=bottom - top)
 
 
-def capped(limit, call):
-    """The limit under the call's cap, where it has one that is a number."""
-    bits = call.numbers.get("cap", ()) if call.kind == "waypoint" else ()
-    cap = value(bits[0]) if bits else math.nan
-    return limit if math.isnan(cap) or cap < 0 else min(limit, cap)
+def draw_band(page, column, top):
+    """A mark for each refused call, each hold and each fallback; the place of its lower edge."""
+    names = ["refused", "held, fell back"]
+    rows = [top + 13 + 19 * n for n in range(len(names))]
+    box = column.box(top, 19 * len(names) + 6)
+    label(page, "ink name", column.left, top - 12, "Calls that were refused, held or fell back")
+    for name, y in zip(names, rows):
+        label(page, "soft end", column.left - 7, y + 4, name)
+    for y in rows[1:]:
+        line(page, "grid", column.left, y - 10, column.right, y - 10)
+    draw_refusal_marks(page, column, rows[0])
+    draw_law_marks(page, column, rows[1])
+    frame(page, "frame", box)
+    return box[3]
 
 
-def limits(configuration, quantity, call):
-    """The least and the greatest that a waypoint answer may have, in the units that are drawn."""
-    of = {name: value(bits) for name, bits in configuration.items()}
-    if quantity == "roll":
-        return -math.degrees(of["max_bank_rad"]), math.degrees(of["max_bank_rad"])
-    if quantity == "pitch":
-        down, up = capped(of["max_pitch_down_rad"], call), capped(of["max_pitch_up_rad"], call)
-        return -math.degrees(down), math.degrees(up)
-    return of["min_thrust"], max(of["max_thrust"], of["min_thrust"])
-
-
-def all_limits(configuration, quantity, flown):
-    """The limits at each call; a refused call keeps those before it."""
-    found = []
-    for moment in flown:
-        kept = moment.refused and found
-        found.append(found[-1] if kept else limits(configuration, quantity, moment.call))
-    return found
-
-
-def drawn_value(quantity, answer):
-    """The number of an answer that belongs in this strip; none where it has none that is finite."""
-    if answer.kind not in ("plane", "rate", "waypoint") or answer.kind == "rate" and quantity != "thrust":
-        return None
-    bits = answer.numbers[{"roll": 0, "pitch": 1, "thrust": -1}[quantity]]
-    if not is_finite(bits):
-        return None
-    return value(bits) if quantity == "thrust" else math.degrees(value(bits))
-
-
-def strip_scale(quantity, bounds, values, page):
-    if quantity == "thrust":
-        return Scale((-0.05, 1.05), page)
-    low = min([low for low, _ in bounds] + [v for v in values if v >= -180])
-    high = max([high for _, high in bounds] + [v for v in values if v <= 180])
-    room = max(0.12 * (high - low), 1.0)
-    return Scale((low - room, high + room), page)
-
-
-def stairs(pairs, end):
-    """Points of a line that keeps each value until the next time."""
-    points = []
-    for (x, y), after in zip(pairs, [x for x, _ in pairs[1:]] + [end]):
-        points += [(x, y), (after, y)]
-    return points
-
-
-def draw_limits(page, flown, bounds, scale, time, unit):
-    for side in (0, 1):
-        pairs = [(time(m.time), scale(b[side])) for m, b in zip(flown, bounds)]
-        path(page, "limit", stairs(pairs, STRIPS_RIGHT))
-        text = f"{bounds[-1][side]:.3g}{unit}"
-        label(page, "ink small", STRIPS_RIGHT + 6, pairs[-1][1] + 4, f"limit {text}")
-
-
-def draw_strip(page, quantity, flown, configuration, time):
-    top, bottom = STRIPS[quantity]
-    bounds = all_limits(configuration, quantity, flown)
-    found = [(m.time, drawn_value(quantity, m.answer)) for m in flown]
-    found = [(t, v) for t, v in found if v is not None]
-    scale = strip_scale(quantity, bounds, [v for _, v in found], (bottom, top))
-    draw_spans(page, flown, time, top, bottom)
-    for v in steps(scale.low, scale.high, 6):
-        line(page, "grid", STRIPS_LEFT, scale(v), STRIPS_RIGHT, scale(v))
-        label(page, "soft end", STRIPS_LEFT - 7, scale(v) + 4, f"{v:g}")
-    draw_limits(page, flown, bounds, scale, time, "" if quantity == "thrust" else "°")
-    if found:
-        path(page, f"line {quantity}", stairs([(time(t), scale(v)) for t, v in found], STRIPS_RIGHT))
-    name, unit = UNITS[quantity]
-    label(page, "ink", STRIPS_LEFT, top - 9, f"{name}, {unit}")
-    add(page, "rect", "frame", x=STRIPS_LEFT, y=top, width=STRIPS_RIGHT - STRIPS_LEFT, height=bottom - top)
-
-
-def draw_time_axis(page, flown, time):
+def draw_time_axis(page, column, bottom):
     """Seconds, and below them the number of the call at that time, by which the desk program's lines go."""
-    bottom = STRIPS["thrust"][1]
-    for v in steps(time.low, time.high, 9):
-        number = max(m.number for m in flown if m.time <= v + 1e-6)
-        line(page, "tick", time(v), bottom, time(v), bottom + 5)
-        label(page, "soft middle", time(v), bottom + 18, f"{v:g}")
-        label(page, "soft middle", time(v), bottom + 36, f"{number}")
-    label(page, "ink", STRIPS_RIGHT + 14, bottom + 18, "seconds")
-    label(page, "ink", STRIPS_RIGHT + 14, bottom + 36, "call")
+    numbers = [(m.time, m.number) for m in column.flown]
+    for v in steps(column.time.low, column.time.high, 9):
+        number = max(n for t, n in numbers if t <= v + 1e-6)
+        x = column.time(v)
+        line(page, "tick", x, bottom, x, bottom + 5)
+        label(page, "soft middle", x, bottom + 18, f"{v:g}")
+        label(page, "soft middle", x, bottom + 36, f"{number}")
+    label(page, "ink", column.right + 14, bottom + 18, "seconds")
+    label(page, "ink", column.right + 14, bottom + 36, "call")
 
 
-def draw_over_time(page, flown, configuration):
-    time = Scale((0.0, max(flown[-1].time, 1.0)), (STRIPS_LEFT, STRIPS_RIGHT))
-    draw_band(page, flown, time)
-    for quantity in STRIPS:
-        draw_strip(page, quantity, flown, configuration, time)
-    draw_time_axis(page, flown, time)
+def draw_over_time(page, column, configuration, top):
+    """The band and every strip, from a place down; the place of the lowest edge."""
+    top = draw_band(page, column, top)
+    for strip in STRIPS:
+        top += STRIP_GAP
+        draw_strip(page, strip, column, configuration, top)
+        top += STRIP_HEIGHT
+    draw_time_axis(page, column, top)
+    return top

@@ -1,7 +1,7 @@
-"""The page's style sheet: for print and light screens, and for dark screens."""
+"""The style of drawings: for print and light screens, and for dark screens."""
 
-# Light colours, for print and for screens; the second set on a screen that is set to dark. Each pair of classes
-# differs by shape or by dashes too.
+# Light colours, for print and for screens by day; the second set by night. Each pair of classes differs by shape or by
+# dashes too.
 COLOURS = {
     "paper": ("#ffffff", "#14181d"),
     "ink": ("#1b1f24", "#e8eaed"),
@@ -13,20 +13,39 @@ COLOURS = {
     "hold": ("#6b3fa0", "#cbaeff"),
     "refused": ("#b3261e", "#ff8f85"),
 }
-FILLED = ["paper", "ink", "soft"]
+
+# Classes, and the colours of their lines and of what they fill.
+STROKES = {
+    ".grid": "grid",
+    ".line": "line",
+    ".aim, .demand": "aim",
+    ".fallback": "fallback",
+    ".hold": "hold",
+    ".refused": "refused",
+    ".frame, .tick": "soft",
+    ".limit": "ink",
+    ".over": "paper",
+}
+FILLS = {
+    ".paper": "paper",
+    ".ink": "ink",
+    ".soft": "soft",
+    ".energy, .way": "line",
+    ".head": "aim",
+    ".fallback": "paper",
+    ".hold": "hold",
+    ".span": "grid",
+}
+DAY, NIGHT = 0, 1
 
 
-def colours(side):
-    rules = [f".{name} {{ stroke: {pair[side]}; }}" for name, pair in COLOURS.items() if name not in FILLED]
-    rules += [f".{name} {{ fill: {COLOURS[name][side]}; }}" for name in FILLED]
-    rules += [f".frame, .tick {{ stroke: {COLOURS['soft'][side]}; }}"]
-    rules += [f".limit {{ stroke: {COLOURS['ink'][side]}; }}"]
-    rules += [f".energy {{ fill: {COLOURS['line'][side]}; }}"]
-    rules += [f".head {{ fill: {COLOURS['aim'][side]}; }}"]
-    rules += [f".fallback {{ fill: {COLOURS['paper'][side]}; }}"]
-    rules += [f".hold {{ fill: {COLOURS['hold'][side]}; }}"]
-    rules += [f".span {{ fill: {COLOURS['grid'][side]}; }}"]
-    rules += [f".over {{ stroke: {COLOURS['paper'][side]}; }}"]
+def colours(side, under=""):
+    """The rules of a side; under: what a selector has to stand under."""
+    rules = []
+    for word, table in (("stroke", STROKES), ("fill", FILLS)):
+        for names, colour in table.items():
+            names = ", ".join(f"{under}{name}" for name in names.split(", "))
+            rules.append(f"{names} {{ {word}: {COLOURS[colour][side]}; }}")
     return "\n".join(rules)
 
 
@@ -38,13 +57,14 @@ text { font-family: "DejaVu Sans", Verdana, Arial, sans-serif; font-size: 13px; 
 .over { paint-order: stroke; stroke-width: 3; stroke-linejoin: round; }
 .middle { text-anchor: middle; }
 .end { text-anchor: end; }
-.frame, .grid, .tick, .aim, .line, .limit, .mark, .place { fill: none; }
+.frame, .grid, .tick, .aim, .line, .limit, .demand, .mark, .place { fill: none; }
 .frame, .grid, .tick { stroke-width: 1; }
 .line { stroke-width: 1.6; stroke-linejoin: round; }
 .track { stroke-width: 1; }
 .aim { stroke-width: 1.6; stroke-dasharray: 9 4; }
 .centre { stroke-dasharray: none; }
 .limit { stroke-width: 1.2; stroke-dasharray: 3 3; }
+.demand { stroke-width: 1.4; stroke-dasharray: 9 4; }
 .refused { stroke-width: 2; fill: none; }
 .fallback { stroke-width: 1.4; }
 .hold { stroke-width: 1; }
@@ -54,5 +74,11 @@ text { font-family: "DejaVu Sans", Verdana, Arial, sans-serif; font-size: 13px; 
 
 
 def style():
-    dark = f"@media screen and (prefers-color-scheme: dark) {{\n{colours(1)}\n}}"
-    return f"{SHAPES}{colours(0)}\n{dark}\n"
+    """For a drawing of its own."""
+    dark = f"@media screen and (prefers-color-scheme: dark) {{\n{colours(NIGHT)}\n}}"
+    return f"{SHAPES}{colours(DAY)}\n{dark}\n"
+
+
+def themed_style():
+    """For drawings in a page whose root names its theme."""
+    return f"{SHAPES}{colours(DAY)}\n{colours(NIGHT, ':root[data-theme=night] ')}\n"

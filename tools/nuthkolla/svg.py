@@ -25,6 +25,17 @@ def label(parent, css, x, y, text, **attributes):
     return add(parent, "text", css, text, x=float(x), y=float(y), **attributes)
 
 
+def frame(parent, css, box):
+    left, top, right, bottom = box
+    return add(parent, "rect", css, x=left, y=top, width=right - left, height=bottom - top)
+
+
+def clipped(parent, name, box):
+    """A group of which only what lies in a box is seen."""
+    frame(add(add(parent, "defs", None), "clipPath", None, id=name), None, box)
+    return add(parent, "g", None, clip_path=f"url(#{name})")
+
+
 def path(parent, css, points, **attributes):
     """A line through points."""
     d = "M" + "L".join(f"{short(float(x))},{short(float(y))}" for x, y in points)
@@ -40,30 +51,49 @@ def square(parent, css, x, y, size):
     return add(parent, "rect", css, x=float(x - size), y=float(y - size), width=2 * size, height=2 * size)
 
 
+def head(parent, css, tip, way, size):
+    """The head of an arrow: its tip, and the way that it points, of length 1."""
+    (x, y), (dx, dy) = tip, way
+    back = (x - size * dx, y - size * dy)
+    sides = [(back[0] - side * size * dy / 2, back[1] + side * size * dx / 2) for side in (1, -1)]
+    return path(parent, css, [(x, y), *sides, (x, y)])
+
+
 def steps(low, high, most):
     """Round numbers from low to high, at most so many."""
     span = high - low
-    if not span > 0:
-        return [low]
     size = 10.0 ** math.floor(math.log10(span / most))
     step = next(size * m for m in (1, 2, 5, 10) if span / (size * m) <= most)
     first = math.ceil(low / step - 1e-9)
     return [n * step for n in range(first, math.floor(high / step + 1e-9) + 1)]
 
 
+# A span has at least this share of its numbers' size, so that its ends and what is between them differ.
+LEAST_SPAN = 1e-9
+
+
 class Scale:
-    """From a span of values to a span of the page. What lies outside is drawn at the edge."""
+    """From a span of values to a span of the page."""
 
     def __init__(self, values, page):
-        self.low, self.high = values
+        low, high = values
+        room = LEAST_SPAN * max(abs(low), abs(high), LEAST_SPAN)
+        self.low, self.high = (low, high) if high - low > room else (low - room, high + room)
         self.start, self.end = page
 
-    def place(self, value):
+    def __call__(self, value):
         share = (value - self.low) / (self.high - self.low)
         return self.start + share * (self.end - self.start)
 
     def within(self, value):
         return self.low <= value <= self.high
 
-    def __call__(self, value):
-        return self.place(min(max(value, self.low), self.high))
+
+def usual_span(values, others=()):
+    """The span of values without those that lie far off, and of the others that are near them."""
+    ordered = sorted(values)
+    left_out = max(len(ordered) // 20, len(ordered) > 5)
+    low, high = ordered[left_out], ordered[-1 - left_out]
+    room = 2 * max(high - low, 20.0)
+    near = [v for v in [*ordered, *others] if low - room <= v <= high + room]
+    return min(near), max(near)

@@ -4,6 +4,7 @@ from nuthkolla.numbers import NotANumber, from_text, to_text
 from nuthkolla.record import CONFIGURATION, KINDS, REGIMES, USED, Call
 
 CONFIG = "config"
+BYTE_ORDER_MARK = "\ufeff"
 
 
 class BadText(Exception):
@@ -104,9 +105,9 @@ def call_of(kind, words):
 
 
 def read_text(text):
-    """The configuration, and the calls with the numbers of their lines."""
+    """The configuration, and the calls with the numbers of their lines. A byte-order mark is passed over."""
     configuration, calls, last = None, [], 1
-    for last, line in enumerate(text.split("\n"), 1):
+    for last, line in enumerate(text.removeprefix(BYTE_ORDER_MARK).split("\n"), 1):
         words = line.partition("#")[0].split()
         if not words:
             continue

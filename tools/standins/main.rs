@@ -51,10 +51,11 @@ impl Count {
 
 type One = (&'static str, fn(f32) -> f32, fn(f32) -> f32);
 
-const ONES: [One; 3] = [
+const ONES: [One; 4] = [
     ("root", |x| arithmetic_root(x), oracle::root),
     ("sine", |x| arithmetic_sine(x), oracle::sine),
     ("cosine", |x| arithmetic_cosine(x), oracle::cosine),
+    ("arctangent", |x| arithmetic_arctangent(x), oracle::arctangent),
 ];
 
 /// With a planted fault one answer in 1,000 has a wrong bit.
@@ -67,7 +68,7 @@ fn called(count: u64, seed: u64, fault: bool) -> Count {
     for (name, ours, theirs) in ONES {
         let (mut part, mut arguments) = (Count::default(), Arguments::new(seed));
         for at in 0..count {
-            let x = arguments.one(name);
+            let x = if name == "arctangent" { arguments.slope() } else { arguments.one(name) };
             part.take(name, &[x], planted(fault, at, ours(x)), theirs(x));
         }
         part.print(name);
@@ -215,7 +216,7 @@ fn main() {
     let word = |at: usize| words.get(at).map(String::as_str);
     let whole = |at: usize, other: u64| word(at).map_or(other, |text| text.parse().expect("a whole number"));
     let total = if word(2) == Some("all") {
-        let one = ONES.into_iter().find(|one| Some(one.0) == word(3)).expect("root, sine or cosine");
+        let one = ONES.into_iter().find(|one| Some(one.0) == word(3)).expect("root, sine, cosine or arctangent");
         everywhere(one, whole(4, 1) as u32)
     } else {
         let fault = word(2) == Some("plant");

@@ -13,6 +13,7 @@ A row is 53 u32 words, low byte first. Numbers are their bits, every NaN 7fc0000
     1..33   of 7 and 8: the configuration
     1..24   of a call: regime; time step; four command numbers; waypoint; leg (1 if present, x, y); altitude; cruise speed;
             position; velocity; roll; airspeed (1 if present, number); cap (likewise)
+    25, 26  of a call: the mode report after it: mode (1 plane), refusal (0 none, 1 unsupported)
     34      the refusal's number, of 7 and 8 the failing field's, or 0
     35, 36  laws: 1 track, 2 loiter; 1 energy, 2 hold, 3 fallback; 0 none
     37      1 plane setpoint, 2 rate setpoint, 0 none
@@ -29,6 +30,7 @@ CRATE = HERE.parent.parent / "crates/guidance_cases"
 FIXED = HERE.parent / "oracle/fixed"
 WORDS = 53
 PRIME, WAYPOINT, SET_CONFIG, NEW = 0, 3, 7, 8
+
 LATERAL = {"track": 1, "loiter": 2}
 VERTICAL = {"energy": 1, "hold": 2, "fallback": 3}
 FRESH = [1] + [0] * 10
@@ -116,7 +118,19 @@ def state(line):
     return [int(said[0])] + [int(text, 16) for text in said[1:10]] + [int(said[10])]
 
 
+def modes():
+    """The mode reports of the published Rust, by the requested regime."""
+    data = (FIXED / "laws/flight_mode.rows").read_bytes()
+    words = [word_at(data, 4 * n) for n in range(4)]
+    return {0: words[:2], 1: words[2:]}
+
+
+MODES = modes()
+
+
 def row(words, answered, after):
+    if words[0] not in (SET_CONFIG, NEW):
+        words = words + [0] * (25 - len(words)) + MODES[after[0]]
     padded = words + [0] * (34 - len(words)) + answered + after
     assert len(padded) == WORDS
     return struct.pack("<53I", *padded)

@@ -127,4 +127,5 @@ def main():
     (crate / "stdout").write_text("".join(f"{name} agrees\n" for name, recording in cases))
 
 
-main()
+if __name__ == "__main__":
+    main()

@@ -1,4 +1,4 @@
-//! include/nuthkolla.h, declared again. The layouts are held against the header by tools/test/60-host.
+//! include/nuthkolla.h, declared again. Sizes and places are held against the header's by tools/host/layout.txt.
 
 #[repr(C)]
 #[derive(Clone, Copy, Debug, Default, PartialEq)]

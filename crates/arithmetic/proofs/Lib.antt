@@ -4,3 +4,4 @@ mod Remainder
 pub mod Rounding
 pub mod Signs
 pub mod Sums
+pub mod Values

@@ -1,8 +1,11 @@
 -- The remainder by TAU in whole numbers: from 4 up, a number and TAU are whole numbers of 2 ^ -21, and TAU is 13176795 of them. Assumes nothing.
+-- 0x200000 is 2 ^ 21, 0x800000 is 2 ^ 23, 0x80000000 is 2 ^ 31, 0x7f800000 is the infinity's pattern.
 use mathlib.Core.Path.{_≡_, refl, sym, ap, _∙_, subst}
 use mathlib.Core.Bool.{Bool, true, false, not, cond, true≢false}
 use Prim.Native.Nat.{ℕ, zero, suc, _+_, _-_, _*_, _/_, _%_, _^_, _≤_, _<_}
-use native.Mathlib.Nat.{le-trans, le-of-eq, lt-of-lt-of-le, lt-of-le-of-lt, lt-of-not-le, le-of-suc-le-suc, mul-one, mul-assoc, mul-comm, mul-right-comm, add-mul, mul-pos, mul-le-mul-right, mul-lt-mul-of-pos-right, lt-of-mul-lt-mul-right, eq-of-mul-eq-mul-right, mod-lt, mod-eq-of-lt, div-add-mod', mul-add-mod-self-right}
+use native.Mathlib.Nat.{le-trans, le-of-eq, lt-of-lt-of-le, lt-of-le-of-lt, lt-of-not-le, le-of-suc-le-suc, mul-one, mul-assoc, mul-comm}
+use native.Mathlib.Nat.{mul-right-comm, add-mul, mul-pos, mul-le-mul-right, mul-lt-mul-of-pos-right, lt-of-mul-lt-mul-right, eq-of-mul-eq-mul-right}
+use native.Mathlib.Nat.{mod-lt, mod-eq-of-lt, div-add-mod', mul-add-mod-self-right}
 use native.Mathlib.Omega.{arith}
 use lib.Dec.{T, leb, ltb, eqb, leb→le, nleb→lt}
 use lib.IntN.{negsuc}
@@ -37,29 +40,31 @@ tau-is : tau ≡ fin false 13176795 (negsuc 20)
 unfolding ofBits
 tau-is = refl
 
-by-tau : (s : Bool) (a b d : ℕ) → 0 < d → s ≡ false → a * 2097152 ≡ b * d → round binary32 s (a * 2097152 % (13176795 * d)) (d * 2097152) ≡ round binary32 false (b % 13176795) 2097152
+by-tau : (s : Bool) (a b d : ℕ) → 0 < d → s ≡ false → a * 0x200000 ≡ b * d →
+    round binary32 s (a * 0x200000 % (13176795 * d)) (d * 0x200000) ≡ round binary32 false (b % 13176795) 0x200000
 by-tau s a b d D e h =
-    ap (λ (t : Bool). round binary32 t (a * 2097152 % (13176795 * d)) (d * 2097152)) e
-    ∙ ap (λ (n : ℕ). round binary32 false (n % (13176795 * d)) (d * 2097152)) h
-    ∙ ap (λ (n : ℕ). round binary32 false n (d * 2097152)) (common-factor b 13176795 d (omega arith) D)
-    ∙ round-same binary32 false (b % 13176795 * d) (d * 2097152) (b % 13176795) 2097152 (mul-pos {m = d} D (omega arith)) (omega arith) (mul-assoc (b % 13176795) d 2097152)
+    ap (λ (t : Bool). round binary32 t (a * 0x200000 % (13176795 * d)) (d * 0x200000)) e
+    ∙ ap (λ (n : ℕ). round binary32 false (n % (13176795 * d)) (d * 0x200000)) h
+    ∙ ap (λ (n : ℕ). round binary32 false n (d * 0x200000)) (common-factor b 13176795 d (omega arith) D)
+    ∙ round-same binary32 false (b % 13176795 * d) (d * 0x200000) (b % 13176795) 0x200000 (mul-pos {m = d} D (omega arith)) (omega arith)
+    (mul-assoc (b % 13176795) d 0x200000)
 
 -- the remainder of b times 2 ^ -21
-pub rem-whole : (x : Float) (b : ℕ) → HasValue x false b 2097152 → rem binary32 x tau ≡ round binary32 false (b % 13176795) 2097152
+pub rem-whole : (x : Float) (b : ℕ) → HasValue x false b 0x200000 → rem binary32 x tau ≡ round binary32 false (b % 13176795) 0x200000
 unfolding rem
 rem-whole nan b h = absurd h
 rem-whole (inf s) b h = absurd h
 rem-whole (fin s m e) b h = rw tau-is (by-tau s (m * up e) b (down e) (down-pos e) (h .0) (h .1))
 
 -- a whole number over 2 ^ 21
-pub over-units : (y : Float) (x : ℕ) → HasValue y false x 1 → div binary32 y (ofBits binary32 0x4a000000) ≡ round binary32 false x 2097152
+pub over-units : (y : Float) (x : ℕ) → HasValue y false x 1 → div binary32 y (ofBits binary32 0x4a000000) ≡ round binary32 false x 0x200000
 unfolding div ofBits
 over-units nan x h = absurd h
 over-units (inf s) x h = absurd h
 over-units (fin true m e) x h = absurd (true≢false (h .0))
 over-units (fin false m e) x h =
-    round-same binary32 false (m * up e * 1) (2097152 * down e) x 2097152 (mul-pos {m = 2097152} (omega arith) (down-pos e)) (omega arith)
-    (ap (λ (n : ℕ). n * 2097152) (h .1) ∙ mul-assoc x (down e) 2097152 ∙ ap (λ (n : ℕ). x * n) (mul-comm (down e) 2097152))
+    round-same binary32 false (m * up e * 1) (0x200000 * down e) x 0x200000 (mul-pos {m = 0x200000} (omega arith) (down-pos e)) (omega arith)
+    (ap (λ (n : ℕ). n * 0x200000) (h .1) ∙ mul-assoc x (down e) 0x200000 ∙ ap (λ (n : ℕ). x * n) (mul-comm (down e) 0x200000))
 
 -- ---- the size of a remainder is the remainder of the size
 size-odd : (d : ℕ) (s : Bool) (q k l : ℕ) → size (odd d s q k l) ≡ odd d false q k l
@@ -83,7 +88,7 @@ pub size-rem : (r : Float) → size (r %ᶠ tau) ≡ size r %ᶠ tau
 unfolding size rem
 size-rem nan = refl
 size-rem (inf s) = refl
-size-rem (fin s m e) = rw tau-is (size-round binary32 s (m * up e * 2097152 % (13176795 * down e)) (down e * 2097152))
+size-rem (fin s m e) = rw tau-is (size-round binary32 s (m * up e * 0x200000 % (13176795 * down e)) (down e * 0x200000))
 
 pub size-finite : (r : Float) → finite (size r) ≡ finite r
 unfolding size finite
@@ -92,12 +97,12 @@ size-finite (inf s) = refl
 size-finite (fin s m e) = refl
 
 -- ---- the bits of a number that is not below TAU
-scaled : (a b d u : ℕ) → 0 < u → 0 < d → a * (2097152 * u) ≡ b * d → b < 8388608 * u → a * 2097152 < 13176795 * d
+scaled : (a b d u : ℕ) → 0 < u → 0 < d → a * (0x200000 * u) ≡ b * d → b < 0x800000 * u → a * 0x200000 < 13176795 * d
 scaled a b d u U D h l =
     lt-of-mul-lt-mul-right u
-    (lt-of-le-of-lt (le-of-eq (mul-assoc a 2097152 u ∙ h))
+    (lt-of-le-of-lt (le-of-eq (mul-assoc a 0x200000 u ∙ h))
     (lt-of-lt-of-le (mul-lt-mul-of-pos-right l D)
-    (le-trans (le-of-eq (mul-right-comm 8388608 u d)) (mul-le-mul-right u (mul-le-mul-right d (omega arith))))))
+    (le-trans (le-of-eq (mul-right-comm 0x800000 u d)) (mul-le-mul-right u (mul-le-mul-right d (omega arith))))))
 
 below-tau : (x : Float) (b : ℕ) → HasValue x false b (2 ^ 149) → b < 2 ^ 151 → lt x tau ≡ true
 unfolding lt
@@ -107,19 +112,19 @@ below-tau (fin true m e) b h l = absurd (true≢false (h .0))
 below-tau (fin false m e) b h l = rw tau-is (lt-ltb _ _ (scaled (m * up e) b (down e) (2 ^ 128) (pow-pos 128) (down-pos e) (h .1) l))
 
 below-four : (b : ℕ) → b < 0x40800000 → lt (ofBits binary32 b) tau ≡ true
-below-four b l = go (leb 8388608 b) (leb→le 8388608 b) (nleb→lt 8388608 b)
+below-four b l = go (leb 0x800000 b) (leb→le 0x800000 b) (nleb→lt 0x800000 b)
   where
-    normal : 8388608 ≤ b → lt (ofBits binary32 b) tau ≡ true
+    normal : 0x800000 ≤ b → lt (ofBits binary32 b) tau ≡ true
     normal g =
-        let m = 8388608 + b % 8388608 in
-        let x = b / 8388608 - 1 in
+        let m = 0x800000 + b % 0x800000 in
+        let x = b / 0x800000 - 1 in
         below-tau (ofBits binary32 b) (m * 2 ^ x) (normal-value b m x (omega arith) (omega arith) refl)
         (lt-of-lt-of-le (shl-lt {a = m} 24 x (omega arith)) (pow-mono {i = 24 + x} {j = 151} (omega arith)))
 
-    subnormal : b < 8388608 → lt (ofBits binary32 b) tau ≡ true
+    subnormal : b < 0x800000 → lt (ofBits binary32 b) tau ≡ true
     subnormal g = below-tau (ofBits binary32 b) b (subnormal-value b g) (lt-of-lt-of-le g (pow-mono {i = 23} {j = 151} (omega arith)))
 
-    go : (t : Bool) → (T t → 8388608 ≤ b) → (T (not t) → b < 8388608) → lt (ofBits binary32 b) tau ≡ true
+    go : (t : Bool) → (T t → 0x800000 ≤ b) → (T (not t) → b < 0x800000) → lt (ofBits binary32 b) tau ≡ true
     go true y n = normal (y tt)
     go false y n = subnormal (n tt)
 
@@ -139,35 +144,35 @@ finite-bits b small h = lt-of-not-le (λ (g : 0x7f800000 ≤ b). never (sym (inf
   where
     infinite : 0x7f800000 ≤ b → finite (ofBits binary32 b) ≡ false
     infinite g =
-        let e : b % 2147483648 / 8388608 ≡ 255 = omega arith in
+        let e : b % 0x80000000 / 0x800000 ≡ 255 = omega arith in
         ap finite (ofBits-is b
-        ∙ ap (λ (s : Bool). ofFields binary32 s (b % 2147483648 / 8388608) (b % 8388608)) (lt-leb 2147483648 b small)
-        ∙ ap (λ (x : ℕ). ofFields binary32 false x (b % 8388608)) e)
-        ∙ not-finite (b % 8388608)
+        ∙ ap (λ (s : Bool). ofFields binary32 s (b % 0x80000000 / 0x800000) (b % 0x800000)) (lt-leb 0x80000000 b small)
+        ∙ ap (λ (x : ℕ). ofFields binary32 false x (b % 0x800000)) e)
+        ∙ not-finite (b % 0x800000)
 
 -- ---- a number from 4 up in units of 2 ^ -21
-coarser : (a p d v : ℕ) → 0 < v → a * (2097152 * v) ≡ p * v * d → a * 2097152 ≡ p * d
-coarser a p d v above h = eq-of-mul-eq-mul-right v above (a * 2097152) (p * d) (mul-assoc a 2097152 v ∙ h ∙ mul-right-comm p v d)
+coarser : (a p d v : ℕ) → 0 < v → a * (0x200000 * v) ≡ p * v * d → a * 0x200000 ≡ p * d
+coarser a p d v above h = eq-of-mul-eq-mul-right v above (a * 0x200000) (p * d) (mul-assoc a 0x200000 v ∙ h ∙ mul-right-comm p v d)
 
-in-units : (x : Float) (p : ℕ) → HasValue x false (p * 2 ^ 128) (2 ^ 149) → HasValue x false p 2097152
+in-units : (x : Float) (p : ℕ) → HasValue x false (p * 2 ^ 128) (2 ^ 149) → HasValue x false p 0x200000
 in-units nan p h = absurd h
 in-units (inf s) p h = absurd h
 in-units (fin s m e) p h = (h .0, coarser (m * up e) p (down e) (2 ^ 128) (pow-pos 128) (h .1))
 
-pub whole-units : (b : ℕ) → 0x40800000 ≤ b → b < 0x7f800000 → HasValue (ofBits binary32 b) false ((b % 8388608 + 8388608) * 2 ^ (b / 8388608 - 129)) 2097152
+pub whole-units : (b : ℕ) → 0x40800000 ≤ b → b < 0x7f800000 → HasValue (ofBits binary32 b) false ((b % 0x800000 + 0x800000) * 2 ^ (b / 0x800000 - 129)) 0x200000
 whole-units b lo hi =
-    let m = b % 8388608 + 8388608 in
-    let k = b / 8388608 - 129 in
+    let m = b % 0x800000 + 0x800000 in
+    let k = b / 0x800000 - 129 in
     let e : m * 2 ^ (k + 128) ≡ m * 2 ^ k * 2 ^ 128 = ap (λ (x : ℕ). m * x) (pow-add 2 k 128) ∙ sym (mul-assoc m (2 ^ k) (2 ^ 128)) in
     in-units (ofBits binary32 b) (m * 2 ^ k)
     (subst (λ (a : ℕ). HasValue (ofBits binary32 b) false a (2 ^ 149)) e (normal-value b m (k + 128) hi (omega arith) (omega arith)))
 
 -- ---- the loop: x, doubled n times more
 abbrev pub Left : ℕ → ℕ → ℕ → Type 0
-Left b x n = (x < 13176795) × (x * 2 ^ n % 13176795 ≡ (b % 8388608 + 8388608) * 2 ^ (b / 8388608 - 129) % 13176795)
+Left b x n = (x < 13176795) × (x * 2 ^ n % 13176795 ≡ (b % 0x800000 + 0x800000) * 2 ^ (b / 0x800000 - 129) % 13176795)
 
-pub left-first : (b : ℕ) → Left b ((b % 8388608 + 8388608) % 13176795) (b / 8388608 - 129)
-left-first b = (mod-lt (b % 8388608 + 8388608) (omega arith), reduced-first (b % 8388608 + 8388608) (2 ^ (b / 8388608 - 129)) 13176795)
+pub left-first : (b : ℕ) → Left b ((b % 0x800000 + 0x800000) % 13176795) (b / 0x800000 - 129)
+left-first b = (mod-lt (b % 0x800000 + 0x800000) (omega arith), reduced-first (b % 0x800000 + 0x800000) (2 ^ (b / 0x800000 - 129)) 13176795)
 
 pub left-next : (b x n : ℕ) → 0 < n → Left b x n → Left b (x * 2 % 13176795) (n - 1)
 left-next b x n p h =
@@ -181,6 +186,6 @@ left-next b x n p h =
 pub left-none : (b x n : ℕ) → n ≡ 0 → Left b x n → 0x40800000 ≤ b → b < 0x7f800000 → (y : Float) → HasValue y false x 1
     → div binary32 y (ofBits binary32 0x4a000000) ≡ rem binary32 (ofBits binary32 b) tau
 left-none b x n z h lo hi y v =
-    let e : x ≡ (b % 8388608 + 8388608) * 2 ^ (b / 8388608 - 129) % 13176795 =
+    let e : x ≡ (b % 0x800000 + 0x800000) * 2 ^ (b / 0x800000 - 129) % 13176795 =
     sym (ap (λ (k : ℕ). x * 2 ^ k % 13176795) z ∙ ap (λ (k : ℕ). k % 13176795) (mul-one x) ∙ mod-eq-of-lt (h .0)) ∙ h .1 in
-    over-units y x v ∙ ap (λ (k : ℕ). round binary32 false k 2097152) e ∙ sym (rem-whole (ofBits binary32 b) _ (whole-units b lo hi))
+    over-units y x v ∙ ap (λ (k : ℕ). round binary32 false k 0x200000) e ∙ sym (rem-whole (ofBits binary32 b) _ (whole-units b lo hi))

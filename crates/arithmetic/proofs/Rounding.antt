@@ -2,7 +2,8 @@
 use mathlib.Core.Path.{_≡_, refl, sym, ap, _∙_, subst}
 use mathlib.Core.Bool.{Bool, true, false, cond, _&&_}
 use Prim.Native.Nat.{ℕ, zero, suc, _+_, _-_, _*_, _%_, _^_, _≤_, _<_}
-use native.Mathlib.Nat.{le-trans, le-of-suc-le-suc, lt-of-lt-of-le, lt-of-not-le, lt-irrefl, mul-one, mul-assoc, mul-comm, mul-left-comm, mul-right-comm, mul-pos, zero-mul, mul-lt-mul-of-pos-right, lt-of-mul-lt-mul-right, mod-eq-of-lt}
+use native.Mathlib.Nat.{le-trans, le-of-suc-le-suc, lt-of-lt-of-le, lt-of-not-le, lt-irrefl, mul-one, mul-assoc, mul-comm, mul-left-comm}
+use native.Mathlib.Nat.{mul-right-comm, mul-pos, zero-mul, mul-lt-mul-of-pos-right, lt-of-mul-lt-mul-right, mod-eq-of-lt}
 use native.Mathlib.Omega.{arith}
 use lib.Dec.{T, leb, ltb, eqb, leb→le, ltb→lt}
 use lib.IntN.{ℤ, pos, negsuc}
@@ -23,7 +24,9 @@ use Rattle.arithmetic.proofs.root.Patterns.{same-value}
 place : (m : ℕ) (e : ℤ) → down e ≤ 2 ^ 149 → (j : ℕ) × (m * up e * 2 ^ 149 ≡ m * 2 ^ j * down e)
 place m (pos a) h = (a + 149, mul-assoc m (2 ^ a) (2 ^ 149) ∙ ap (λ (x : ℕ). m * x) (sym (pow-add 2 a 149)) ∙ sym (mul-one (m * 2 ^ (a + 149))))
 place m (negsuc a) h =
-    let l : suc a ≤ 149 = le-of-suc-le-suc (lt-of-not-le (λ (g : 150 ≤ suc a). lt-irrefl (2 ^ 149) (lt-of-lt-of-le (pow-lt {i = 149} {j = 150} (omega arith)) (le-trans (pow-mono g) h)))) in
+    let l : suc a ≤ 149 =
+    le-of-suc-le-suc (lt-of-not-le (λ (g : 150 ≤ suc a). lt-irrefl (2 ^ 149)
+    (lt-of-lt-of-le (pow-lt {i = 149} {j = 150} (omega arith)) (le-trans (pow-mono g) h)))) in
     let q : 2 ^ 149 ≡ 2 ^ (149 - suc a) * 2 ^ suc a = ap (λ (x : ℕ). 2 ^ x) (sym (back 149 (suc a) l)) ∙ pow-add 2 (149 - suc a) (suc a) in
     (149 - suc a, ap (λ (x : ℕ). x * 2 ^ 149) (mul-one m) ∙ ap (λ (x : ℕ). m * x) q ∙ sym (mul-assoc m (2 ^ (149 - suc a)) (2 ^ suc a)))
 
@@ -63,7 +66,8 @@ module _ (s : Bool) (m : ℕ) (e : ℤ) (h : T (fits binary32 (fin s (suc m) e))
   not-too-large = ltb→lt (suc m * up e) (2 ^ 128 * down e) (and-r (is-odd (suc m) && few (suc m) && coarse e) (bounded (suc m) e) parts)
 
 -- the same value, by its units
-by-units : (s : Bool) (m : ℕ) (e : ℤ) (j c : ℕ) → T (fits binary32 (fin s m e)) → 0 < c → m * up e * 2 ^ 149 ≡ m * 2 ^ j * down e → m < 2 ^ 24 → m * 2 ^ j < 2 ^ 277 → round binary32 s (m * up e * c) (down e * c) ≡ fin s m e
+by-units : (s : Bool) (m : ℕ) (e : ℤ) (j c : ℕ) → T (fits binary32 (fin s m e)) → 0 < c → m * up e * 2 ^ 149 ≡ m * 2 ^ j * down e → m < 2 ^ 24 →
+    m * 2 ^ j < 2 ^ 277 → round binary32 s (m * up e * c) (down e * c) ≡ fin s m e
 by-units s m e j c h C p small fine =
     round-same binary32 s (m * up e * c) (down e * c) (m * 2 ^ j) (2 ^ 149) (mul-pos (down-pos e) C) (pow-pos 149)
     (mul-right-comm (m * up e) c (2 ^ 149) ∙ ap (λ (x : ℕ). x * c) p ∙ mul-assoc (m * 2 ^ j) (down e) c)
@@ -77,13 +81,15 @@ round-own s zero e c h C =
 round-own s (suc m) e c h C =
     let p = place (suc m) e (not-too-small s m e h) in
     by-units s (suc m) e (p .0) c h C (p .1) (few-digits s m e h)
-    (subst (λ (x : ℕ). suc m * 2 ^ p .0 < x) (sym (pow-add 2 149 128)) (below-top (suc m * up e) (suc m * 2 ^ p .0) (down e) (2 ^ 149) (2 ^ 128) (down-pos e) (pow-pos 149) (p .1) (not-too-large s m e h)))
+    (subst (λ (x : ℕ). suc m * 2 ^ p .0 < x) (sym (pow-add 2 149 128))
+    (below-top (suc m * up e) (suc m * 2 ^ p .0) (down e) (2 ^ 149) (2 ^ 128) (down-pos e) (pow-pos 149) (p .1) (not-too-large s m e h)))
 
 tau-is : tau ≡ fin false 13176795 (negsuc 20)
 unfolding ofBits
 tau-is = refl
 
-rem-below : (s : Bool) (m n : ℕ) (e d : ℤ) → T (fits binary32 (fin s m e)) → eqb n 0 ≡ false → m * up e * down d < n * up d * down e → fin s m e ≡ rem binary32 (fin s m e) (fin false n d)
+rem-below : (s : Bool) (m n : ℕ) (e d : ℤ) → T (fits binary32 (fin s m e)) → eqb n 0 ≡ false → m * up e * down d < n * up d * down e →
+    fin s m e ≡ rem binary32 (fin s m e) (fin false n d)
 unfolding rem
 rem-below s m n e d h z l = sym (rw (z, mod-eq-of-lt l) (round-own s m e (down d) h (down-pos d)))
 

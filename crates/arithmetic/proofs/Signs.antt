@@ -1,4 +1,5 @@
 -- The sign bit of a number: what is left when it is cleared, and whether it stands. Assumes nothing.
+-- 0x80000000 is 2 ^ 31, 0x100000000 is 2 ^ 32.
 use mathlib.Core.Path.{_≡_, refl, sym, ap, _∙_, subst}
 use mathlib.Core.Bool.{Bool, true, false, cond, not}
 use Prim.Native.Nat.{ℕ, zero, suc, _+_, _*_, _%_, _<_, _≤_}
@@ -19,51 +20,51 @@ any-sign s t (suc m) e h = h
 regroup : (c a b : ℕ) → c + a + b ≡ c + (0 + a + b)
 regroup c a b = omega arith
 
-sign-apart : (s : Bool) (m : ℕ) (e : ℤ) → toBits binary32 (fin s m e) ≡ cond s 2147483648 0 + toBits binary32 (fin false m e)
+sign-apart : (s : Bool) (m : ℕ) (e : ℤ) → toBits binary32 (fin s m e) ≡ cond s 0x80000000 0 + toBits binary32 (fin false m e)
 unfolding toBits
-sign-apart s m e = regroup (cond s 2147483648 0) _ _
+sign-apart s m e = regroup (cond s 0x80000000 0) _ _
 
-half : (x y : ℕ) → y ≡ 2147483648 + x → y < 4294967296 → x < 2147483648
+half : (x y : ℕ) → y ≡ 0x80000000 + x → y < 0x100000000 → x < 0x80000000
 half x y e h = omega arith
 
-below-sign : (s : Bool) (m : ℕ) (e : ℤ) → T (fits binary32 (fin s m e)) → toBits binary32 (fin false m e) < 2147483648
+below-sign : (s : Bool) (m : ℕ) (e : ℤ) → T (fits binary32 (fin s m e)) → toBits binary32 (fin false m e) < 0x80000000
 below-sign s m e h =
     half (toBits binary32 (fin false m e)) (toBits binary32 (fin true m e)) (sign-apart true m e)
     (toBits-lt binary32 (fin true m e) (any-sign s true m e h))
 
-cleared : (s : Bool) (x : ℕ) → x < 2147483648 → (cond s 2147483648 0 + x) % 2147483648 ≡ x
+cleared : (s : Bool) (x : ℕ) → x < 0x80000000 → (cond s 0x80000000 0 + x) % 0x80000000 ≡ x
 cleared true x h = omega arith
 cleared false x h = omega arith
 
-stands : (s : Bool) (x : ℕ) → x < 2147483648 → leb 2147483648 (cond s 2147483648 0 + x) ≡ s
-stands true x h = le-leb 2147483648 (2147483648 + x) (omega arith)
-stands false x h = lt-leb 2147483648 (0 + x) (omega arith)
+stands : (s : Bool) (x : ℕ) → x < 0x80000000 → leb 0x80000000 (cond s 0x80000000 0 + x) ≡ s
+stands true x h = le-leb 0x80000000 (0x80000000 + x) (omega arith)
+stands false x h = lt-leb 0x80000000 (0 + x) (omega arith)
 
-infinite : (s : Bool) → ofBits binary32 (toBits binary32 (inf s) % 2147483648) ≡ inf false
+infinite : (s : Bool) → ofBits binary32 (toBits binary32 (inf s) % 0x80000000) ≡ inf false
 unfolding ofBits toBits
 infinite true = refl
 infinite false = refl
 
 -- the bits without the sign bit are the size's
-pub size-bits : (v : Float) → T (fits binary32 v) → isNan v ≡ false → ofBits binary32 (toBits binary32 v % 2147483648) ≡ size v
+pub size-bits : (v : Float) → T (fits binary32 v) → isNan v ≡ false → ofBits binary32 (toBits binary32 v % 0x80000000) ≡ size v
 unfolding size isNan
 size-bits nan h n = never′ n
 size-bits (inf s) h n = infinite s
 size-bits (fin s m e) h n =
-    ap (λ (b : ℕ). ofBits binary32 (b % 2147483648)) (sign-apart s m e)
+    ap (λ (b : ℕ). ofBits binary32 (b % 0x80000000)) (sign-apart s m e)
     ∙ ap (ofBits binary32) (cleared s (toBits binary32 (fin false m e)) (below-sign s m e h))
     ∙ ofBits-toBits binary32 (fin false m e) (any-sign s false m e h)
 
-infinite-sign : (s : Bool) → leb 2147483648 (toBits binary32 (inf s)) ≡ s
+infinite-sign : (s : Bool) → leb 0x80000000 (toBits binary32 (inf s)) ≡ s
 unfolding toBits
 infinite-sign true = refl
 infinite-sign false = refl
 
-pub sign-bit : (v : Float) → T (fits binary32 v) → isNan v ≡ false → leb 2147483648 (toBits binary32 v) ≡ negative v
+pub sign-bit : (v : Float) → T (fits binary32 v) → isNan v ≡ false → leb 0x80000000 (toBits binary32 v) ≡ negative v
 unfolding negative isNan
 sign-bit nan h n = never′ n
 sign-bit (inf s) h n = infinite-sign s
-sign-bit (fin s m e) h n = ap (leb 2147483648) (sign-apart s m e) ∙ stands s (toBits binary32 (fin false m e)) (below-sign s m e h)
+sign-bit (fin s m e) h n = ap (leb 0x80000000) (sign-apart s m e) ∙ stands s (toBits binary32 (fin false m e)) (below-sign s m e h)
 
 pub size-number : (v : Float) → isNan v ≡ false → isNan (size v) ≡ false
 unfolding size isNan

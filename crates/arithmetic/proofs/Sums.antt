@@ -14,14 +14,15 @@ use lib.Ieee.Order.{round-mono}
 use lib.Ieee.Scale.{round-same}
 use Rattle.arithmetic.specs.Constants.{n0}
 use Rattle.arithmetic.specs.Order.{finite}
-use Rattle.arithmetic.proofs.Bounds.{tri, tri′, across, both-zero, product-zero, between, AtLeastZero, an-inf, plain, minus-zero, never, never′, and-left, left-number, right-number, le-self}
+use Rattle.arithmetic.proofs.Bounds.{tri, tri′, across, both-zero, product-zero, between, AtLeastZero, an-inf, plain, minus-zero, never}
+use Rattle.arithmetic.proofs.Bounds.{never′, and-left, left-number, right-number, le-self}
 
 -- ---- a signed number as a difference
-abbrev above : Bool → ℕ → ℕ
+abbrev pub above : Bool → ℕ → ℕ
 above false a = a
 above true a = 0
 
-abbrev under : Bool → ℕ → ℕ
+abbrev pub under : Bool → ℕ → ℕ
 under false a = 0
 under true a = a
 
@@ -33,7 +34,7 @@ and-right : (a b : Bool) → a && b ≡ true → b ≡ true
 and-right true b e = e
 and-right false b e = never e
 
-cross-of : (s t : Bool) (a b : ℕ) → below s a t b || level s a t b ≡ true → above s a + under t b ≤ above t b + under s a
+pub cross-of : (s t : Bool) (a b : ℕ) → below s a t b || level s a t b ≡ true → above s a + under t b ≤ above t b + under s a
 cross-of false false a b e =
     or-cases (ltb a b) (eqb a b && true) e (λ h. let p = ltb-true a b h in omega arith) (λ h. let p = eqb-true a b (and-left (eqb a b) true h) in omega arith)
 cross-of false true a b e =
@@ -59,20 +60,24 @@ under-mul false a k = zero-mul k
 under-mul true a k = refl
 
 -- le, as fractions: xp/dx - xn/dx against yp/dy - yn/dy
-cross : (s t : Bool) (m n : ℕ) (e d : ℤ) → le (fin s m e) (fin t n d) ≡ true → above s (m * up e) * down d + under t (n * up d) * down e ≤ above t (n * up d) * down e + under s (m * up e) * down d
+cross : (s t : Bool) (m n : ℕ) (e d : ℤ) → le (fin s m e) (fin t n d) ≡ true →
+    above s (m * up e) * down d + under t (n * up d) * down e ≤ above t (n * up d) * down e + under s (m * up e) * down d
 unfolding le
 cross s t m n e d h =
     rw (above-mul s (m * up e) (down d), under-mul t (n * up d) (down e), above-mul t (n * up d) (down e), under-mul s (m * up e) (down d))
     (cross-of s t (m * up e * down d) (n * up d * down e) h)
 
-uncross : (s t : Bool) (m n : ℕ) (e d : ℤ) → above s (m * up e) * down d + under t (n * up d) * down e ≤ above t (n * up d) * down e + under s (m * up e) * down d → le (fin s m e) (fin t n d) ≡ true
+uncross : (s t : Bool) (m n : ℕ) (e d : ℤ) →
+    above s (m * up e) * down d + under t (n * up d) * down e ≤ above t (n * up d) * down e + under s (m * up e) * down d →
+    le (fin s m e) (fin t n d) ≡ true
 unfolding le
 uncross s t m n e d h =
     of-cross s t (m * up e * down d) (n * up d * down e)
     (rw (above-mul s (m * up e) (down d), under-mul t (n * up d) (down e), above-mul t (n * up d) (down e), under-mul s (m * up e) (down d)) at h)
 
 -- ---- transitivity
-through : (xp xn dx yp yn dy zp zn dz : ℕ) → 0 < dy → xp * dy + yn * dx ≤ yp * dx + xn * dy → yp * dz + zn * dy ≤ zp * dy + yn * dz → xp * dz + zn * dx ≤ zp * dx + xn * dz
+through : (xp xn dx yp yn dy zp zn dz : ℕ) → 0 < dy → xp * dy + yn * dx ≤ yp * dx + xn * dy → yp * dz + zn * dy ≤ zp * dy + yn * dz →
+    xp * dz + zn * dx ≤ zp * dx + xn * dz
 through xp xn dx yp yn dy zp zn dz D p q =
     let a = simp (add-mul, mul-assoc, mul-comm, mul-left-comm) at (mul-le-mul-right dz p) in
     let b = simp (add-mul, mul-assoc, mul-comm, mul-left-comm) at (mul-le-mul-right dx q) in
@@ -104,7 +109,8 @@ le-trans (fin s m e) (fin t n d) (inf true) p q = never q
 le-trans (fin s m e) (fin t n d) (inf false) p q = refl
 le-trans (fin s m e) (fin t n d) (fin u k c) p q =
     uncross s u m k e c
-    (through (above s (m * up e)) (under s (m * up e)) (down e) (above t (n * up d)) (under t (n * up d)) (down d) (above u (k * up c)) (under u (k * up c)) (down c) (down-pos d) (cross s t m n e d p) (cross t u n k d c q))
+    (through (above s (m * up e)) (under s (m * up e)) (down e) (above t (n * up d)) (under t (n * up d)) (down d) (above u (k * up c))
+    (under u (k * up c)) (down c) (down-pos d) (cross s t m n e d p) (cross t u n k d c q))
 
 -- ---- rounding and signs
 odd-neg : (d q k l : ℕ) → odd d true q k l ≡ neg (odd d false q k l)
@@ -120,7 +126,7 @@ units-neg f q k = go (ltb (q * 2 ^ k) (2 ^ (low f + suc (Ieee.emax f))))
     go true = odd-neg (suc (prec f)) q k (low f)
     go false = refl
 
-round-neg : (f : Format) (n c : ℕ) → round f true n c ≡ neg (round f false n c)
+pub round-neg : (f : Format) (n c : ℕ) → round f true n c ≡ neg (round f false n c)
 round-neg f n c = round-is f true n c ∙ units-neg f _ _ ∙ ap neg (sym (round-is f false n c))
 
 odd-plain : (d q k l : ℕ) → AtLeastZero (odd d false q k l)
@@ -136,10 +142,10 @@ units-plain f q k = go (ltb (q * 2 ^ k) (2 ^ (low f + suc (Ieee.emax f))))
     go true = odd-plain (suc (prec f)) q k (low f)
     go false = an-inf
 
-round-plain : (f : Format) (n c : ℕ) → AtLeastZero (round f false n c)
+pub round-plain : (f : Format) (n c : ℕ) → AtLeastZero (round f false n c)
 round-plain f n c = subst AtLeastZero (sym (round-is f false n c)) (units-plain f _ _)
 
-holds : (b : Bool) → T b → b ≡ true
+pub holds : (b : Bool) → T b → b ≡ true
 holds true t = refl
 holds false t = absurd t
 
@@ -157,7 +163,9 @@ le-neg (inf false) (fin t n d) p = never p
 le-neg (fin s m e) nan p = never p
 le-neg (fin s m e) (inf true) p = never p
 le-neg (fin s m e) (inf false) p = refl
-le-neg (fin s m e) (fin t n d) p = of-cross (not t) (not s) (n * up d * down e) (m * up e * down d) (flip s t (m * up e * down d) (n * up d * down e) (cross-of s t (m * up e * down d) (n * up d * down e) p))
+le-neg (fin s m e) (fin t n d) p =
+    of-cross (not t) (not s) (n * up d * down e) (m * up e * down d)
+    (flip s t (m * up e * down d) (n * up d * down e) (cross-of s t (m * up e * down d) (n * up d * down e) p))
   where
     flip : (s t : Bool) (a b : ℕ) → above s a + under t b ≤ above t b + under s a → above (not t) b + under (not s) a ≤ above (not s) a + under (not t) b
     flip false false a b h = omega arith
@@ -166,7 +174,7 @@ le-neg (fin s m e) (fin t n d) p = of-cross (not t) (not s) (n * up d * down e) 
     flip true true a b h = omega arith
 
 -- r is (p - q) / c, rounded, whichever sign a zero has
-data Rounds (f : Format) (r : Float) (p q c : ℕ) : Type 0 where
+pub data Rounds (f : Format) (r : Float) (p q c : ℕ) : Type 0 where
   more : (n : ℕ) → p ≡ q + n → r ≡ round f false n c → Rounds f r p q c
   less : (n : ℕ) → q ≡ p + n → r ≡ round f true n c → Rounds f r p q c
 
@@ -176,9 +184,14 @@ zero-closed = refl
 
 zero-either : (c d : ℕ) → 0 < c → 0 < d → le (round binary32 false 0 c) (round binary32 true 0 d) ≡ true
 zero-either c d C D =
-    rw (round-same binary32 false 0 c 0 1 C (omega arith) (zero-mul 1 ∙ sym (zero-mul c)), round-same binary32 true 0 d 0 1 D (omega arith) (zero-mul 1 ∙ sym (zero-mul d))) zero-closed
+    rw (
+      round-same binary32 false 0 c 0 1 C (omega arith) (zero-mul 1 ∙ sym (zero-mul c)),
+      round-same binary32 true 0 d 0 1 D (omega arith)
+          (zero-mul 1 ∙ sym (zero-mul d)),
+    ) zero-closed
 
-rounds-mono : (r r′ : Float) (p q c p′ q′ c′ : ℕ) → 0 < c → 0 < c′ → Rounds binary32 r p q c → Rounds binary32 r′ p′ q′ c′ → p * c′ + q′ * c ≤ p′ * c + q * c′ → le r r′ ≡ true
+rounds-mono : (r r′ : Float) (p q c p′ q′ c′ : ℕ) → 0 < c → 0 < c′ → Rounds binary32 r p q c → Rounds binary32 r′ p′ q′ c′ →
+    p * c′ + q′ * c ≤ p′ * c + q * c′ → le r r′ ≡ true
 rounds-mono r r′ p q c p′ q′ c′ C C′ (more n e i) (more n′ e′ i′) h =
     let g = simp add-mul at (rw (e, e′) at h) in
     rw (i, i′) (holds _ (round-mono binary32 n c n′ c′ C C′ (omega arith)))
@@ -194,7 +207,7 @@ rounds-mono r r′ p q c p′ q′ c′ C C′ (less n e i) (less n′ e′ i′
     rw (i, i′, round-neg binary32 n c, round-neg binary32 n′ c′)
     (le-neg _ _ (holds _ (round-mono binary32 n′ c′ n c C′ C (omega arith))))
 
-sum-rounds : (f : Format) (s : Bool) (a : ℕ) (t : Bool) (b c : ℕ) → Rounds f (sum f s a t b c) (above s a + above t b) (under s a + under t b) c
+pub sum-rounds : (f : Format) (s : Bool) (a : ℕ) (t : Bool) (b c : ℕ) → Rounds f (sum f s a t b c) (above s a + above t b) (under s a + under t b) c
 unfolding sum
 sum-rounds f false a false b c = more (a + b) (omega arith) refl
 sum-rounds f true a true b c = less (a + b) (omega arith) refl
@@ -217,11 +230,13 @@ spread xp xn dx yp yn dy wp wn dw h =
     let a = simp (add-mul, mul-assoc, mul-comm, mul-left-comm) at (mul-le-mul-right (dw * dw) h) in
     simp (add-mul, mul-assoc, mul-comm, mul-left-comm) (omega arith)
 
-pub add-mono : (s t u : Bool) (m n k : ℕ) (e d c : ℤ) → le (fin s m e) (fin t n d) ≡ true → le (Ieee.add binary32 (fin s m e) (fin u k c)) (Ieee.add binary32 (fin t n d) (fin u k c)) ≡ true
+pub add-mono : (s t u : Bool) (m n k : ℕ) (e d c : ℤ) → le (fin s m e) (fin t n d) ≡ true →
+    le (Ieee.add binary32 (fin s m e) (fin u k c)) (Ieee.add binary32 (fin t n d) (fin u k c)) ≡ true
 unfolding Ieee.add
 add-mono s t u m n k e d c h =
     rounds-mono _ _ _ _ (down e * down c) _ _ (down d * down c) (mul-pos (down-pos e) (down-pos c)) (mul-pos (down-pos d) (down-pos c))
-    (sum-rounds binary32 s (m * up e * down c) u (k * up c * down e) (down e * down c)) (sum-rounds binary32 t (n * up d * down c) u (k * up c * down d) (down d * down c))
+    (sum-rounds binary32 s (m * up e * down c) u (k * up c * down e) (down e * down c))
+    (sum-rounds binary32 t (n * up d * down c) u (k * up c * down d) (down d * down c))
     (rw (
       ← above-mul s (m * up e) (down c),
       ← above-mul u (k * up c) (down e),
@@ -232,7 +247,8 @@ add-mono s t u m n k e d c h =
       ← under-mul s (m * up e) (down c),
       ← under-mul u (k * up c) (down e),
     )
-    (spread (above s (m * up e)) (under s (m * up e)) (down e) (above t (n * up d)) (under t (n * up d)) (down d) (above u (k * up c)) (under u (k * up c)) (down c) (cross s t m n e d h)))
+    (spread (above s (m * up e)) (under s (m * up e)) (down e) (above t (n * up d)) (under t (n * up d)) (down d) (above u (k * up c))
+    (under u (k * up c)) (down c) (cross s t m n e d h)))
 
 pub sub-mono : (x y w : Float) → finite x ≡ true → finite y ≡ true → finite w ≡ true → le x y ≡ true → le (Ieee.sub binary32 x w) (Ieee.sub binary32 y w) ≡ true
 unfolding Ieee.sub neg finite

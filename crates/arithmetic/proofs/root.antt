@@ -4,3 +4,4 @@ mod Rounded
 pub mod Patterns
 mod Whole
 mod Law
+mod Near

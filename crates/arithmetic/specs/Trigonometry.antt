@@ -60,7 +60,7 @@ seriesEnd = f32 0x3ed413cd  -- 0.41421356
 
 -- ---- sine and cosine
 
--- Sine.
+-- Sine, z = a·a: a·(1 - z/6·(1 - z/20·(1 - z/42·(1 - z/72·(1 - z/110))))).
 unfoldable pub sine : Float → Float
 sine a =
     let z = a ·ᶠ a in
@@ -70,7 +70,7 @@ sine a =
 unfoldable pub folded : Float → Float
 folded t = cond (Ieee.lt pi t) (tau -ᶠ t) t
 
--- up to FRAC_PI_4 a series; above, the sine of FRAC_PI_2 - t
+-- With z = t·t, up to FRAC_PI_4: 1 - z/2·(1 - z/12·(1 - z/30·(1 - z/56))); above: sine(FRAC_PI_2 - t).
 unfoldable pub cosineOfFolded : Float → Float
 cosineOfFolded t =
     let z = t ·ᶠ t in
@@ -84,7 +84,7 @@ cosine r = cond (finite r) (cosineOfFolded (folded (size (r %ᶠ tau)))) nan
 
 -- ---- arctangent
 
--- Series.
+-- Series(w), z = w·w: w·(1 - z·(1/3 - z·(1/5 - z·(1/7 - z·(1/9 - z·(1/11 - z·(1/13 - z·(1/15)))))))).
 unfoldable pub series : Float → Float
 series w =
     let z = w ·ᶠ w in

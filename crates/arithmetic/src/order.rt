@@ -43,7 +43,7 @@ pub fn is_nan(x: f32) -> bool
     x != x
 }
 
-// The absolute value, by its bits: the sign of a zero is cleared too.
+// The absolute value, by its bits: the sign bit, 2^31, is cleared, of a zero too.
 pub fn size(v: f32) -> f32
     ensures { λ r. ⌜ r ≡ spec.size v ⌝ }
 {
@@ -53,7 +53,7 @@ pub fn size(v: f32) -> f32
     f32::from_bits(f32::to_bits(v) % 0x8000_0000)
 }
 
-// Whether the sign bit stands; a NaN has none.
+// Whether the sign bit, 2^31, stands; a NaN has none.
 pub fn is_negative(v: f32) -> bool
     ensures { λ r. ⌜ r ≡ spec.negative v ⌝ }
 {

@@ -20,6 +20,7 @@ pub const FRAC_PI_2: f32 = 1.5707964;
 
 pub const TAU: f32 = 6.2831855;
 
+// Sine, z = a·a: a·(1 - z/6·(1 - z/20·(1 - z/42·(1 - z/72·(1 - z/110))))).
 pub fn sine(a: f32) -> f32
     ensures { λ r. ⌜ r ≡ spec.sine a ⌝ }
 {
@@ -27,8 +28,9 @@ pub fn sine(a: f32) -> f32
     a * (1.0 - z / 6.0 * (1.0 - z / 20.0 * (1.0 - z / 42.0 * (1.0 - z / 72.0 * (1.0 - z / 110.0)))))
 }
 
-// The remainder by TAU of the number with these bits, which is at least 4. In units of 2^-21 both are whole numbers, and TAU is
-// 13176795. The `%` of f32 would be a call of the C library's fmodf.
+// The remainder by TAU of the number with these bits, which is at least 4 (0x4080_0000) and finite. In units of 2^-21 (1 is
+// 2097152) both are whole numbers, and TAU is 13176795. The `%` of f32 would be a call of the C library's fmodf. 0x80_0000 is
+// 2^23: above the 23 stored digits of a significand.
 fn remainder(b: u32) -> f32
     requires { ⌜ (0x4080_0000 ≤ b) × (b < 0x7f80_0000) ⌝ }
     ensures { λ t. ⌜ t ≡ Ieee.rem binary32 (ofBits binary32 b) tau ⌝ }
@@ -55,12 +57,14 @@ fn turned(r: f32) -> f32
     }
 }
 
+// Above PI, t becomes TAU - t.
 fn folded(t: f32) -> f32
     ensures { λ r. ⌜ r ≡ spec.folded t ⌝ }
 {
     if t > PI { TAU - t } else { t }
 }
 
+// With z = t·t, up to FRAC_PI_4: 1 - z/2·(1 - z/12·(1 - z/30·(1 - z/56))); above: sine(FRAC_PI_2 - t).
 fn cosine_of_folded(t: f32) -> f32
     ensures { λ r. ⌜ r ≡ spec.cosineOfFolded t ⌝ }
 {
@@ -72,6 +76,7 @@ fn cosine_of_folded(t: f32) -> f32
     }
 }
 
+// Cosine of r: NaN if r is not finite; t is the size of r % TAU.
 pub fn cosine(r: f32) -> f32
     ensures { λ c. ⌜ c ≡ spec.cosine r ⌝ }
 {
@@ -82,6 +87,7 @@ pub fn cosine(r: f32) -> f32
     }
 }
 
+// Series(w), z = w·w: w·(1 - z·(1/3 - z·(1/5 - z·(1/7 - z·(1/9 - z·(1/11 - z·(1/13 - z·(1/15)))))))).
 fn series(w: f32) -> f32
     ensures { λ r. ⌜ r ≡ spec.series w ⌝ }
 {
@@ -101,6 +107,7 @@ fn series(w: f32) -> f32
                                                     - z * (1.0 / 13.0 - z * (1.0 / 15.0))))))))
 }
 
+// Part(u): series(u) up to 0.41421356, else FRAC_PI_4 + series((u - 1)/(u + 1)).
 fn part(u: f32) -> f32
     ensures { λ r. ⌜ r ≡ spec.part u ⌝ }
 {
@@ -111,6 +118,7 @@ fn part(u: f32) -> f32
     }
 }
 
+// Of a size u: above 1, FRAC_PI_2 - part(1/u), else part(u).
 pub fn arctangent_of_size(u: f32) -> f32
     ensures { λ r. ⌜ r ≡ spec.arctangentOfSize u ⌝ }
 {
@@ -121,6 +129,7 @@ pub fn arctangent_of_size(u: f32) -> f32
     }
 }
 
+// Arctangent: NaN and zeros as they are; negated for v < 0.
 pub fn arctangent(v: f32) -> f32
     ensures { λ r. ⌜ r ≡ spec.arctangent v ⌝ }
 {

@@ -1,4 +1,4 @@
-// Four functions of `arithmetic` for C and Rust: what tools/bench/arithmetic times.
+// Five functions of `arithmetic` for C and Rust: what tools/bench/arithmetic times and tools/standins compares.
 ghost use mathlib.Core.Path.{_≡_};
 ghost use lib.Ieee.{binary32};
 ghost use Rattle.arithmetic.specs.Root.{rootOf};
@@ -23,6 +23,13 @@ pub extern "C" fn arithmetic_cosine(r: f32) -> f32
     ensures { λ c. ⌜ c ≡ spec.cosine r ⌝ }
 {
     arithmetic::trigonometry::cosine(r)
+}
+
+#[no_mangle]
+pub extern "C" fn arithmetic_arctangent(v: f32) -> f32
+    ensures { λ r. ⌜ r ≡ spec.arctangent v ⌝ }
+{
+    arithmetic::trigonometry::arctangent(v)
 }
 
 #[no_mangle]

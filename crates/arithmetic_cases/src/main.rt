@@ -6,10 +6,13 @@ use arithmetic::trigonometry;
 use arithmetic::vector;
 use arithmetic::vector::Normalised;
 use arithmetic::vector::Vec2;
-use libc::STDOUT_FILENO;
-ghost use mathlib.Core.Path.{_≡_};
+use case_rows::Count;
+use case_rows::bits;
+use case_rows::number_of;
+use case_rows::plus;
+use case_rows::print_count;
+use case_rows::word_of;
 ghost use Prim.Native.Nat.{_≤_};
-ghost use lib.Ieee.{binary32, ofBits, toBits};
 
 // A row's results: a number's bits or a truth, and the parts of a normalised vector after it.
 struct Answer {
@@ -22,30 +25,6 @@ struct Answer {
 struct Tried {
     found: bool,
     right: u32,
-}
-
-struct Count {
-    rows: u32,
-    right: u32,
-}
-
-fn number(bits: u32) -> f32
-    ensures { λ r. ⌜ r ≡ ofBits binary32 bits ⌝ }
-{
-    if bits % 0x8000_0000 > 0x7f80_0000 {
-        return 0.0 / 0.0;
-    }
-    f32::from_bits(bits)
-}
-
-// Every NaN is 7fc00000.
-fn bits(x: f32) -> u32
-    ensures { λ r. ⌜ r ≡ toBits binary32 x ⌝ }
-{
-    if x != x {
-        return 0x7fc0_0000;
-    }
-    f32::to_bits(x)
 }
 
 fn of_number(x: f32) -> Answer {
@@ -106,27 +85,18 @@ fn call(function: u32, a: f32, b: f32, c: f32, d: f32) -> Answer {
     }
 }
 
-fn wide(b: u8) -> u32
-    ensures { λ r. ⌜ r ≤ 255 ⌝ }
-{
-    b as u32
-}
-
 // Four bytes from a place, low byte first.
 fn word(row: &[u8; 32], at: usize) -> u32
     requires { ⌜ at ≤ 28 ⌝ }
 {
-    wide(row[at])
-        + wide(row[at + 1]) * 0x100
-        + wide(row[at + 2]) * 0x1_0000
-        + wide(row[at + 3]) * 0x100_0000
+    word_of(row[at], row[at + 1], row[at + 2], row[at + 3])
 }
 
 fn is_right(row: &[u8; 32]) -> bool {
-    let a = number(word(row, 4));
-    let b = number(word(row, 8));
-    let c = number(word(row, 12));
-    let d = number(word(row, 16));
+    let a = number_of(word(row, 4));
+    let b = number_of(word(row, 8));
+    let c = number_of(word(row, 12));
+    let d = number_of(word(row, 16));
     let got = call(word(row, 0), a, b, c, d);
     (got.first == word(row, 20)) & (got.x == word(row, 24)) & (got.y == word(row, 28))
 }
@@ -161,19 +131,7 @@ fn try_rows(file: i32) -> Count {
         right += tried.right;
         tried = try_row(file);
     }
-    Count {
-        rows: rows,
-        right: right,
-    }
-}
-
-fn print_count(name: &[u8], count: Count) {
-    io::write_all(STDOUT_FILENO, name);
-    io::write_all(STDOUT_FILENO, b": ");
-    io::print_decimal(STDOUT_FILENO, count.right as u64);
-    io::write_all(STDOUT_FILENO, b" of ");
-    io::print_decimal(STDOUT_FILENO, count.rows as u64);
-    io::write_all(STDOUT_FILENO, b"\n");
+    Count { rows, right }
 }
 
 // Tries the rows of one file, prints the count under the file's name, and adds it to the count before.
@@ -186,10 +144,7 @@ fn try_group(name: &[u8], before: Count) -> Count {
     let count = try_rows(file);
     libc::close(file);
     print_count(name, count);
-    Count {
-        rows: std::num::wrapping_add_u32(before.rows, count.rows),
-        right: std::num::wrapping_add_u32(before.right, count.right),
-    }
+    plus(before, count)
 }
 
 fn main() {

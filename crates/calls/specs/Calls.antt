@@ -5,7 +5,7 @@ use Rattle.laws.specs.declared.types.OptionF32.the-variants.{None}
 use Rattle.laws.specs.declared.types.Vec3.{Vec3}
 use Rattle.laws.specs.declared.types.VehicleState.{VehicleState}
 use Rattle.laws.specs.declared.types.ControlInput.the-variants as Input
-use Rattle.guidance.specs.Calls.{Call, guide, prime, Reply, answered, done, Outcome}
+use Rattle.claims.specs.Calls.{Call, guide, prime, Reply, answered, done, Outcome}
 use Rattle.records.specs.declared.call.Call.{Call as Read}
 use Rattle.records.specs.declared.call.Call.the-variants as read
 use Rattle.calls.specs.declared.GuideCall.{GuideCall}

@@ -8,7 +8,7 @@ use laws::types::Vec3;
 use laws::types::VehicleState;
 use records::call::Call;
 ghost use mathlib.Core.Path.{_≡_};
-ghost use Rattle.guidance.specs.Calls as spec;
+ghost use Rattle.claims.specs.Calls as spec;
 ghost use Rattle.calls.specs.Calls as is;
 
 // What `guide_capped` takes besides the guidance.

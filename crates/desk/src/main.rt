@@ -1,35 +1,47 @@
-// The desk program: reads a recording from standard input to its end and writes its text to standard output.
+// The desk program: reads a recording from standard input and writes its text to standard output.
 //
-// A read that fails counts as the end of the input: what was read until then is replayed, and a record that it cuts
-// short prints `stopped 5`. A write that fails ends the program, with a message on standard error.
-use fields::Written;
+// It reads to the end, or as far as anything that follows can no longer change the text. A read or a write that fails is
+// told by a line on standard error; a read that fails leaves standard output empty.
+use input::input_room;
+use input::read_input;
 ghost use mathlib.Core.Path.{_≡_};
+ghost use Prim.Native.Nat.{_≤_};
 ghost use lib.ListN.{length};
-
-// One byte more than the largest recording that can be read to its end: 137 bytes of configuration and 4,096 calls of
-// 86 bytes. Input left after these is number 9 whatever it is, so the rest is not read.
-fn input_room() -> [u8; 352394]
-    ensures { λ r. ⌜ 352394 ≡ length r ⌝ }
-{
-    [0u8; 352394]
-}
+ghost use Rattle.replay.specs.Sizes.{textRoom};
+ghost use Rattle.desk.specs.Shown.{Shown};
 
 // 4,097 lines of 80 bytes: room for every text.
-fn output_room() -> [u8; 327760]
-    ensures { λ r. ⌜ 327760 ≡ length r ⌝ }
+const TEXT_ROOM: usize = 327760;
+
+const STANDARD_OUTPUT: i32 = 1;
+
+const STANDARD_ERROR: i32 = 2;
+
+fn text_room() -> [u8; TEXT_ROOM]
+    ensures { λ r. ⌜ textRoom ≡ length r ⌝ }
 {
-    [0u8; 327760]
+    [0u8; TEXT_ROOM]
+}
+
+// The text of the input, of which these bytes were read.
+fn show(read: &[u8], out: &mut [u8]) -> usize
+    requires { ⌜ textRoom ≤ length (now out) ⌝ }
+    ensures { λ r. ⌜ Shown (now (read .entry)) (now (out .exit)) r ⌝ }
+{
+    replay::print_text(read, out)
 }
 
 fn main() {
-    let mut input = input_room();
-    let n = io::read_full(0, &mut input);
-    let mut out = output_room();
-    let w = replay::replay(&input[..n], &mut out);
-    let Written::Next(m) = w else {
+    let mut bytes = input_room();
+    let got = read_input(&mut bytes);
+    if got.failed {
+        io::write_all(STANDARD_ERROR, b"desk: standard input cannot be read\n");
         return;
-    };
-    if !io::write_all(1, &out[..m]) {
-        io::write_all(2, b"desk: standard output cannot be written\n");
+    }
+    let size = got.size;
+    let mut out = text_room();
+    let n = show(&bytes[..size], &mut out);
+    if !io::write_all(STANDARD_OUTPUT, &out[..n]) {
+        io::write_all(STANDARD_ERROR, b"desk: standard output cannot be written\n");
     }
 }

@@ -71,7 +71,9 @@ pub ones-low : (n d m : ℕ) → ones (n + d) (m % 2 ^ n) ≡ ones n m
 unfolding ones
 ones-low zero d m = let z : m % 1 ≡ 0 = omega arith in rw z (ones-of-0 (0 + d))
 ones-low (suc n) d m =
-    ap (λ (k : ℕ). ones k (m % 2 ^ suc n)) (suc-add n d) ∙ ap₂ (λ (a b : ℕ). a + ones (n + d) b) (low-bit n m) (low-half n m) ∙ ap (λ (a : ℕ). m % 2 + a) (ones-low n d (m / 2))
+    ap (λ (k : ℕ). ones k (m % 2 ^ suc n)) (suc-add n d)
+    ∙ ap₂ (λ (a b : ℕ). a + ones (n + d) b) (low-bit n m) (low-half n m)
+    ∙ ap (λ (a : ℕ). m % 2 + a) (ones-low n d (m / 2))
 
 -- no bit stands above the n lowest
 pub ones-below : (n d m : ℕ) → m < 2 ^ n → ones (n + d) m ≡ ones n m
@@ -101,9 +103,13 @@ values-none m s = refl
 
 module _ (v : List ℕ) (m : ℕ) (s : List ℕ) (i : ℕ) (h : i < length v) where
   -- a turn that reads
-  reads : m % 2 ≡ 1 → take (i + 1) (set v i (numberAt 4 s)) ++ valuesAt (numberFields (drop (i + 1) (set v i (numberAt 4 s)))) (m / 2) (drop 4 s) ≡ take i v ++ valuesAt (numberFields (drop i v)) m s
+  reads : m % 2 ≡ 1
+      → take (i + 1) (set v i (numberAt 4 s)) ++ valuesAt (numberFields (drop (i + 1) (set v i (numberAt 4 s)))) (m / 2) (drop 4 s) ≡ take i v ++ valuesAt (numberFields (drop i v)) m s
   unfolding valuesAt numberFields
-  reads e = rw (add-one i, drop-set-lt (suc i) v i (numberAt 4 s) (omega arith), take-suc-set v i (numberAt 4 s) h, drop-cons v i 0 h, eq-eqb _ _ e) (append-assoc (take i v) _ _)
+  reads e =
+      rw
+      (add-one i, drop-set-lt (suc i) v i (numberAt 4 s) (omega arith), take-suc-set v i (numberAt 4 s) h, drop-cons v i 0 h, eq-eqb _ _ e)
+      (append-assoc (take i v) _ _)
 
   -- a turn that keeps
   keeps : (m % 2 ≡ 1 → ⊥) → take (i + 1) v ++ valuesAt (numberFields (drop (i + 1) v)) (m / 2) s ≡ take i v ++ valuesAt (numberFields (drop i v)) m s
@@ -202,11 +208,13 @@ put-next p at n a b eq en h er =
     er ∙ rw (whole, en) (put-more p at (length a) a b refl (omega arith))
 
 -- a part from a place on, lent and come back with n bytes at its front
-pub put-front : (out p : List ℕ) (at n : ℕ) (bs : List ℕ) → length bs ≡ n → at ≤ length out → p ≡ bs ++ drop n (take (length out - at) (drop at out)) → putMid at (length out - at) out p ≡ putAt out at bs
+pub put-front : (out p : List ℕ) (at n : ℕ) (bs : List ℕ) → length bs ≡ n → at ≤ length out → p ≡ bs ++ drop n (take (length out - at) (drop at out))
+    → putMid at (length out - at) out p ≡ putAt out at bs
 put-front out p at n bs l h e = rest-back out p at h ∙ rw (e, rest-is out at, ← l, drop-drop (length bs) at out)
 
 -- a part from a place on, lent and come back with bytes at its front
-pub put-lent : (out p : List ℕ) (at : ℕ) (bs : List ℕ) → at ≤ length out → p ≡ putAt (take (length out - at) (drop at out)) 0 bs → putMid at (length out - at) out p ≡ putAt out at bs
+pub put-lent : (out p : List ℕ) (at : ℕ) (bs : List ℕ) → at ≤ length out → p ≡ putAt (take (length out - at) (drop at out)) 0 bs
+    → putMid at (length out - at) out p ≡ putAt out at bs
 put-lent out p at bs h e =
     let z : 0 + length bs ≡ length bs = omega arith in
     rest-back out p at h ∙ rw (e, rest-is out at, z, drop-drop (length bs) at out)
@@ -383,7 +391,8 @@ map-starts keep v missing =
     record { below = omega arith; is = sym (rw (drop-length keep) (map-none _ _)); small = rw z (lit< tt) }
 
 module _ {keep v missing : List ℕ} {m i : ℕ} (f : Mapping keep v missing m i) (lv : length v ≡ length keep) (ld : length missing ≡ length keep) where
-  map-step : (j : ℕ) → suc j ≡ i → mapOf (numberFields (drop j missing)) (drop j keep) (drop j v) ≡ bitOf (isWritten (getD keep j 0) (getD v j 0) (getD missing j 0)) + 2 * mapOf (numberFields (drop i missing)) (drop i keep) (drop i v)
+  map-step : (j : ℕ) → suc j ≡ i
+      → mapOf (numberFields (drop j missing)) (drop j keep) (drop j v) ≡ bitOf (isWritten (getD keep j 0) (getD v j 0) (getD missing j 0)) + 2 * mapOf (numberFields (drop i missing)) (drop i keep) (drop i v)
   unfolding mapOf numberFields
   map-step j e = rw (← e, drop-cons keep j 0 (omega (arith, f .below)), drop-cons v j 0 (omega (arith, f .below)), drop-cons missing j 0 (omega (arith, f .below)))
 

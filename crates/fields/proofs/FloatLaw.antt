@@ -58,7 +58,8 @@ module _ {s : List ℕ} {from map n : ℕ} {v : List Float} {at m i : ℕ} (f : 
   pub float-part : i < length v → m % 2 ≡ 1 → 4 ≤ length (take (length s - at) (drop at s))
   float-part h = read-part (f .reading) (below h)
 
-  pub float-turn : i < length v → m % 2 ≡ 1 → (x : ℕ) → x ≡ numberAt 4 (take (length s - at) (drop at s)) → (y : Float) → y ≡ ofBits binary32 x → Floating s from map n (set v i y) (at + 4) (m / 2) (i + 1)
+  pub float-turn : i < length v → m % 2 ≡ 1 → (x : ℕ) → x ≡ numberAt 4 (take (length s - at) (drop at s)) → (y : Float) → y ≡ ofBits binary32 x
+      → Floating s from map n (set v i y) (at + 4) (m / 2) (i + 1)
   float-turn h b x e y k =
       record { words = set (f .words) i x; are = rw (k, f .are) (floats-set (f .words) i x); long = simp length-set (f .long); reading = read-turn (f .reading) (below h) b x e }
 

@@ -54,7 +54,10 @@ module _ (out : List ℕ) (at : ℕ) (bs : List ℕ) (h : at + length bs ≤ len
   put-before = take-at (take at out) (bs ++ drop (at + length bs) out) at front
 
   put-after : drop (at + length bs) (putAt out at bs) ≡ drop (at + length bs) out
-  put-after = sym (drop-drop (length bs) at (putAt out at bs)) ∙ ap (drop (length bs)) (drop-at (take at out) (bs ++ drop (at + length bs) out) at front) ∙ drop-at bs (drop (at + length bs) out) (length bs) refl
+  put-after =
+      sym (drop-drop (length bs) at (putAt out at bs))
+      ∙ ap (drop (length bs)) (drop-at (take at out) (bs ++ drop (at + length bs) out) at front)
+      ∙ drop-at bs (drop (at + length bs) out) (length bs) refl
 
   put-long : length (putAt out at bs) ≡ length out
   put-long = simp (length-append, length-drop) (omega (arith, front))

@@ -7,3 +7,4 @@ pub mod GroupLaw
 pub mod WriteLaw
 pub mod RecordLaw
 pub mod LawsProof
+pub mod Window

@@ -129,7 +129,8 @@ value-missing n [] m s e = refl
 value-missing zero (d ∷ ds) m s e = rw e
 value-missing (suc n) (d ∷ ds) m s e = go (stands m) (λ (r : List ℕ). value-missing n ds (m / 2) r e)
   where
-    go : (b : Bool) → ((r : List ℕ) → getD (valuesAt (numberFields ds) (m / 2) r) n 0 ≡ getD ds n 0) → getD (cond b (numberAt 4 s ∷ valuesAt (numberFields ds) (m / 2) (drop 4 s)) (d ∷ valuesAt (numberFields ds) (m / 2) s)) (suc n) 0 ≡ getD ds n 0
+    go : (b : Bool) → ((r : List ℕ) → getD (valuesAt (numberFields ds) (m / 2) r) n 0 ≡ getD ds n 0)
+        → getD (cond b (numberAt 4 s ∷ valuesAt (numberFields ds) (m / 2) (drop 4 s)) (d ∷ valuesAt (numberFields ds) (m / 2) s)) (suc n) 0 ≡ getD ds n 0
     go true ih = ih (drop 4 s)
     go false ih = ih s
 

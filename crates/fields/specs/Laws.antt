@@ -22,6 +22,12 @@ pub record Laws {Value Answer : Type 0} (F32 : Value → Type 0) (bytes : Value 
   -- two values are written to the same bytes exactly when they are equal
   pub same : (v w : Value) → F32 v → F32 w → bytes v ≡ bytes w ↔ v ≡ w
 
+-- The greatest length of a record: none is longer, written or read, and one that is read has it.
+pub record Longest {Value Answer : Type 0} (most : ℕ) (bytes : Value → List ℕ) (read : List ℕ → ℕ → Answer) (got : Value → ℕ → Answer) : Type 0 where
+  pub written : (v : Value) → length (bytes v) ≤ most
+  pub stepped : (s : List ℕ) (at : ℕ) (v : Value) (next : ℕ) → read s at ≡ got v next → next ≤ at + most
+  pub reached : (s : List ℕ) × (v : Value) × (read s 0 ≡ got v most)
+
 -- Whatever is written: an accepted write changes only the record's bytes, a refused one none, and the length stays.
 pub record Untouched (out : List ℕ) (at : ℕ) (bs : List ℕ) : Type 0 where
   pub before : take at (bufferOf out at bs) ≡ take at out

@@ -40,11 +40,16 @@ pub fn write_number(part: &mut [u8], n: usize, number: u64)
     }
 }
 
+// The sign bit of an f32, and the bits of +infinity: above them, the sign bit left out, is every NaN.
+const SIGN: u32 = 1 << 31;
+
+const INFINITY: u32 = 0x7f800000;
+
 // The f32 with these bits, every NaN alike.
 pub fn from_bits(bits: u32) -> f32
     ensures { λ r. ⌜ r ≡ ofBits binary32 bits ⌝ }
 {
-    if bits % 2147483648 > 2139095040 {
+    if bits % SIGN > INFINITY {
         return 0.0 / 0.0;
     }
     f32::from_bits(bits)

@@ -1,3 +1,2 @@
--- Lemmas of the entries' proofs.
+-- Lemmas of the calls' proofs.
 mod Contracts
-mod Orders

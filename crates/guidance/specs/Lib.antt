@@ -1,7 +1,4 @@
--- Document 01, "Guidance": the calls on a guidance, and demand 3 about lists of them.
+-- Document 01, "Guidance": the calls on a guidance. `code` has the code's own steps.
 pub mod Plane
-pub mod Calls
-pub mod Orders
 pub mod Contracts
-pub mod Limits
-pub mod Demand3
+pub mod code

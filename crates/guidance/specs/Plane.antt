@@ -12,7 +12,7 @@ use Rattle.laws.specs.Config.{checkPositive, validate}
 use Rattle.laws.specs.Math.{clampSymmetric, saturateUnit, saturateThrottle}
 use Rattle.laws.specs.Types.{validAirspeed}
 use Rattle.laws.specs.Navigation.{finiteLeg, lateralAccel, bankForAccel, piStep}
-use Rattle.laws.specs.Tecs.{reset, allInputsFinite, hold, step, flag}
+use Rattle.laws.specs.Tecs.{reset, allInputsFinite, hold, energyStep, flag}
 use Rattle.laws.specs.declared.config.PlaneGuidanceConfig.{PlaneGuidanceConfig}
 use Rattle.laws.specs.declared.navigation.PiLoop.{PiLoop}
 use Rattle.laws.specs.declared.tecs.Tecs.{Tecs}
@@ -121,6 +121,14 @@ absoluteRate k = Set.PlaneRate (k .«roll_radps») (k .«pitch_radps») (k .«ya
 abbrev pub neutral : Setpoint
 neutral = Set.Plane n0 n0 n0
 
+abbrev pub isWaypoint : ControlInput → Bool
+isWaypoint (Input.Attitude k) = false
+isWaypoint (Input.Rate k) = false
+isWaypoint (Input.Waypoint w) = true
+isWaypoint (Input.AbsoluteAttitude k) = false
+isWaypoint Input.Land = false
+isWaypoint (Input.AbsoluteRate k) = false
+
 -- ---- a waypoint's laws, by the call's own numbers
 
 -- a number where there is one, else +0
@@ -131,6 +139,9 @@ orZero (Some x) = x
 abbrev pub present : OptionF32 → Bool
 present None = false
 present (Some x) = true
+
+abbrev pub northEast : Vec3 → Vec2
+northEast v = record { x = v .x; y = v .y }
 
 abbrev pub lateralOf : OptionVec2 → LateralLaw
 lateralOf Leg.None = Loiter
@@ -182,9 +193,6 @@ limitsOf c cap = record {
 
 -- ---- a waypoint
 
-abbrev pub northEast : Vec3 → Vec2
-northEast v = record { x = v .x; y = v .y }
-
 -- the bank of the lateral law, within ±max_bank_rad
 unfoldable pub rollOf : PlaneGuidanceConfig → WaypointCommand → VehicleState → Float
 rollOf c w s =
@@ -220,7 +228,7 @@ fallback c altitude dt w s cap =
 
 -- what the vertical law would answer and store
 unfoldable pub vertical : VerticalLaw → PlaneGuidanceConfig → PiLoop → Tecs → Float → WaypointCommand → VehicleState → OptionF32 → Vertical
-vertical Energy c altitude tecs dt w s cap = onPath (step tecs (c .tecs) (limitsOf c cap) (inputs dt w s))
+vertical Energy c altitude tecs dt w s cap = onPath (energyStep tecs (c .tecs) (limitsOf c cap) (inputs dt w s))
 vertical Hold c altitude tecs dt w s cap = onPath (hold tecs (limitsOf c cap))
 vertical Fallback c altitude tecs dt w s cap = fallback c altitude dt w s cap
 

@@ -12,7 +12,7 @@ use laws::types::Setpoint;
 use laws::types::WaypointCommand;
 ghost use mathlib.Core.Path.{_≡_};
 ghost use Rattle.guidance.specs.Plane as spec;
-ghost use Rattle.guidance.specs.Orders as orders;
+ghost use Rattle.guidance.specs.code.Orders as orders;
 
 // What a command asks: a setpoint that it gives itself, or a waypoint to fly.
 pub enum Order {

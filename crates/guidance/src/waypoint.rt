@@ -23,9 +23,9 @@ use laws::tecs::Limits;
 use laws::tecs::Tecs;
 use laws::tecs::TecsResult;
 use laws::tecs::all_inputs_finite;
+use laws::tecs::energy_step;
 use laws::tecs::hold;
 use laws::tecs::reset;
-use laws::tecs::step;
 use laws::types::FlightRegime;
 use laws::types::OptionF32;
 use laws::types::OptionVec2;
@@ -236,7 +236,7 @@ fn vertical_of(
     match law {
         VerticalLaw::Energy => {
             let t = config.tecs;
-            on_path(step(tecs, t, limits_of(config, cap), inputs_of(dt, w, state)))
+            on_path(energy_step(tecs, t, limits_of(config, cap), inputs_of(dt, w, state)))
         }
         VerticalLaw::Hold => on_path(hold(tecs, limits_of(config, cap))),
         VerticalLaw::Fallback => fallback(config, altitude, dt, w, state, cap),

@@ -5,6 +5,7 @@ use crate::rows::same;
 use crate::rows::word;
 use guidance::plane::Answer;
 use guidance::plane::Created;
+use guidance::plane::FlightMode;
 use guidance::plane::FlightModeReport;
 use guidance::plane::Guided;
 use guidance::plane::LateralLaw;
@@ -96,21 +97,30 @@ fn tecs_right(row: &[u8; 212], t: Tecs) -> bool {
         & (word(row, 52) == t.underspeed)
 }
 
-// Whether a copter request is reported as unsupported, and a plane request as no refusal.
-fn mode_right(row: &[u8; 212], report: FlightModeReport) -> bool {
-    let refusal = report.refusal;
-    match refusal {
-        ModeRefusal::None => word(row, 42) == 1,
-        ModeRefusal::Unsupported => word(row, 42) == 0,
+fn mode_number(mode: FlightMode) -> u32 {
+    match mode {
+        FlightMode::Copter => 0,
+        FlightMode::Plane => 1,
     }
+}
+
+fn refusal_number(refusal: ModeRefusal) -> u32 {
+    match refusal {
+        ModeRefusal::None => 0,
+        ModeRefusal::Unsupported => 1,
+    }
+}
+
+// Whether the mode report after a call is the Rust's.
+fn mode_right(row: &[u8; 212], report: FlightModeReport) -> bool {
+    let mode = report.mode;
+    let refusal = report.refusal;
+    (word(row, 25) == mode_number(mode)) & (word(row, 26) == refusal_number(refusal))
 }
 
 fn state_right(row: &[u8; 212], g: PlaneGuidance) -> bool {
     let t = g.tecs;
-    (word(row, 42) == g.requested)
-        & same(row, 43, g.altitude.integral)
-        & tecs_right(row, t)
-        & mode_right(row, g.flight_mode())
+    (word(row, 42) == g.requested) & same(row, 43, g.altitude.integral) & tecs_right(row, t)
 }
 
 fn created(row: &[u8; 212], g: PlaneGuidance) -> Checked {
@@ -131,7 +141,7 @@ fn primed(row: &[u8; 212], g: PlaneGuidance) -> Checked {
     let h = g.prime();
     Checked {
         guidance: h,
-        right: state_right(row, h),
+        right: state_right(row, h) & mode_right(row, h.flight_mode()),
     }
 }
 
@@ -163,7 +173,7 @@ fn guided(row: &[u8; 212], g: PlaneGuidance) -> Checked {
     let answer = o.answer;
     Checked {
         guidance: h,
-        right: answer_right(row, answer) & state_right(row, h),
+        right: answer_right(row, answer) & state_right(row, h) & mode_right(row, h.flight_mode()),
     }
 }
 

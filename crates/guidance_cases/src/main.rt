@@ -4,17 +4,14 @@ mod calls;
 mod check;
 mod rows;
 
+use case_rows::Count;
+use case_rows::plus;
+use case_rows::print_count;
 use guidance::plane::PlaneGuidance;
 use laws::config;
 use laws::navigation::PiLoop;
 use laws::tecs;
-use libc::STDOUT_FILENO;
 ghost use Prim.Native.Nat.{_≤_};
-
-struct Count {
-    rows: u32,
-    right: u32,
-}
 
 // Whether there was a row, 1 if all was right, and the guidance for the next row.
 struct Tried {
@@ -70,15 +67,6 @@ fn try_rows(file: i32) -> Count {
     Count { rows, right }
 }
 
-fn print_count(name: &[u8], count: Count) {
-    io::write_all(STDOUT_FILENO, name);
-    io::write_all(STDOUT_FILENO, b": ");
-    io::print_decimal(STDOUT_FILENO, count.right as u64);
-    io::write_all(STDOUT_FILENO, b" of ");
-    io::print_decimal(STDOUT_FILENO, count.rows as u64);
-    io::write_all(STDOUT_FILENO, b"\n");
-}
-
 // Tries the rows of one file, prints the count under the file's name, and adds it to the count before.
 fn try_group(name: &[u8], before: Count) -> Count {
     let file = os::open_read(name);
@@ -89,10 +77,7 @@ fn try_group(name: &[u8], before: Count) -> Count {
     let count = try_rows(file);
     libc::close(file);
     print_count(name, count);
-    Count {
-        rows: std::num::wrapping_add_u32(before.rows, count.rows),
-        right: std::num::wrapping_add_u32(before.right, count.right),
-    }
+    plus(before, count)
 }
 
 fn main() {

@@ -4,7 +4,7 @@ use mathlib.Core.Bool.{cond}
 use mathlib.Core.List.{List}
 use lib.Dec.{eqb}
 use Rattle.guidance.specs.Plane.{created}
-use Rattle.guidance.specs.Calls.{Call, setConfig, perform}
+use Rattle.claims.specs.Calls.{Call, setConfig, perform}
 use Rattle.guidance.specs.declared.plane.PlaneGuidance.{PlaneGuidance}
 use Rattle.guidance.specs.declared.plane.Created.{Created}
 use Rattle.guidance.specs.declared.plane.Created.the-variants as New
@@ -15,12 +15,12 @@ use Rattle.records.specs.declared.call.ReadCall.the-variants as call
 use Rattle.records.specs.declared.config.ReadConfig.{ReadConfig}
 use Rattle.records.specs.declared.config.ReadConfig.the-variants as config
 use Rattle.calls.specs.Calls.{callOf}
-use Rattle.host.specs.Answer.{bare, ofReply}
+use Rattle.host_answers.specs.Answer.{bare, ofReply}
 use Rattle.host.specs.declared.run.Ran.{Ran}
 
 -- a refusal, or another call that leaves the guidance as it was
-abbrev pub kept : PlaneGuidance → ℕ → ℕ → ℕ → Ran
-kept g refusal failing next = record { guidance = g; answer = bare refusal failing next }
+abbrev pub unchanged : PlaneGuidance → ℕ → ℕ → ℕ → Ran
+unchanged g refusal failing next = record { guidance = g; answer = bare refusal failing next }
 
 -- one of demand 3's calls
 unfoldable pub performed : PlaneGuidance → Call → ℕ → Ran
@@ -28,7 +28,7 @@ performed g k next = record { guidance = perform g k .next; answer = ofReply (pe
 
 -- what 0: a call record, read at place 0
 abbrev pub ofCall : PlaneGuidance → ReadCall → Ran
-ofCall g (call.Refused n) = kept g n 0 0
+ofCall g (call.Refused n) = unchanged g n 0 0
 ofCall g (call.Read k next) = performed g (callOf k) next
 
 unfoldable pub runCall : PlaneGuidance → List ℕ → Ran
@@ -36,7 +36,7 @@ runCall g bytes = ofCall g (readCall bytes 0)
 
 -- what 1: a configuration record, set
 abbrev pub ofConfig : PlaneGuidance → ReadConfig → Ran
-ofConfig g (config.Refused n) = kept g n 0 0
+ofConfig g (config.Refused n) = unchanged g n 0 0
 ofConfig g (config.Read c next) = performed g (setConfig c) next
 
 unfoldable pub runConfig : PlaneGuidance → List ℕ → Ran
@@ -44,11 +44,11 @@ runConfig g bytes = ofConfig g (readConfig bytes 0)
 
 -- what 2: what `new` makes of a configuration record; number 1 keeps the guidance that was there
 abbrev pub made : PlaneGuidance → Created → ℕ → Ran
-made g (New.Refused failing) next = kept g 1 failing next
+made g (New.Refused failing) next = unchanged g 1 failing next
 made g (New.Made fresh) next = record { guidance = fresh; answer = bare 0 0 next }
 
 abbrev pub ofNew : PlaneGuidance → ReadConfig → Ran
-ofNew g (config.Refused n) = kept g n 0 0
+ofNew g (config.Refused n) = unchanged g n 0 0
 ofNew g (config.Read c next) = made g (created c) next
 
 unfoldable pub runNew : PlaneGuidance → List ℕ → Ran
@@ -60,4 +60,4 @@ run g what bytes =
     cond (eqb what 0) (runCall g bytes)
     (cond (eqb what 1) (runConfig g bytes)
     (cond (eqb what 2) (runNew g bytes)
-    (kept g 255 0 0)))
+    (unchanged g 255 0 0)))

@@ -1,12 +1,12 @@
 // The one function by reference: the host's guidance is copied out, `run` does the work by value, and what it may have
 // changed is put back.
-use crate::answer::RunAnswer;
-use crate::answer::bare;
-use crate::answer::of_field;
-use crate::answer::of_reply;
 use calls::perform;
 use guidance::plane::Created;
 use guidance::plane::PlaneGuidance;
+use host_answers::answer::RunAnswer;
+use host_answers::answer::bare;
+use host_answers::answer::of_field;
+use host_answers::answer::of_reply;
 use records::call::ReadCall;
 use records::call::read_call;
 use records::config::ReadConfig;

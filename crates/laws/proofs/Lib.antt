@@ -2,3 +2,4 @@
 pub mod Starred
 pub mod Steering
 pub mod Validated
+pub mod Values

@@ -12,8 +12,9 @@ use Rattle.arithmetic.specs.declared.vector.Vec2.{Vec2}
 use Rattle.arithmetic.specs.declared.vector.Normalised.{Normalised}
 use Rattle.arithmetic.specs.declared.vector.Normalised.the-variants.{None, Parts}
 use Rattle.arithmetic.proofs.Bounds.{never′}
-use Rattle.laws.specs.Navigation.{maxCapture, leastLeg, leastOffset, difference, along, rightOf, noCourse, level, trackAlong, trackBy, trackAccel, centripetal, loiterBy, loiterAccel, lateralAccel}
-use Rattle.laws.specs.Steering.{trackTo, circle, aimOf, badRadius, withCentripetal, steer}
+use Rattle.laws.specs.Navigation.{maxCapture, leastLeg, leastOffset, difference, along, rightOf, noCourse, level}
+use Rattle.laws.specs.Navigation.{trackAlong, trackBy, trackAccel, centripetal, loiterBy, loiterAccel, lateralAccel}
+use Rattle.laws.specs.code.Steering.{trackTo, circle, aimOf, badRadius, withCentripetal, steer}
 use Rattle.laws.specs.declared.types.OptionVec2.{OptionVec2}
 use Rattle.laws.specs.declared.types.OptionVec2.the-variants as Leg
 
@@ -54,7 +55,9 @@ or-false false = refl
 
 module _ (position velocity point : Vec2) (radius period damping : Float) where
   -- the speed that track measures is the one handed to it
-  known : noCourse (norm velocity) ≡ false → (through : Vec2) (n : Normalised) → trackBy position velocity through period damping n ≡ trackTo position velocity through (norm velocity) period damping n
+  known :
+      noCourse (norm velocity) ≡ false → (through : Vec2) (n : Normalised) →
+      trackBy position velocity through period damping n ≡ trackTo position velocity through (norm velocity) period damping n
   unfolding trackBy trackTo
   known h through None = refl
   known h through (Parts d) = rw h
@@ -64,17 +67,25 @@ module _ (position velocity point : Vec2) (radius period damping : Float) where
   no-track h None = refl
   no-track h (Parts d) = rw h
 
-  around : noCourse (norm velocity) ≡ false → (n : Normalised) → steer (circle point radius n) position velocity radius (norm velocity) period damping ≡ loiterBy position velocity point radius period damping n
+  around :
+      noCourse (norm velocity) ≡ false → (n : Normalised) →
+      steer (circle point radius n) Leg.None position velocity radius (norm velocity) period damping
+      ≡ loiterBy position velocity point radius period damping n
   unfolding steer circle withCentripetal loiterBy trackAccel
   around h None = refl
   around h (Parts outward) = rw (known h (along point outward radius) (normalise (rightOf outward) leastLeg))
 
-  pub gives-up : (leg : OptionVec2) → noCourse (norm velocity) || badRadius leg radius ≡ true → lateralAccel leg position velocity point radius period damping ≡ level
+  pub gives-up :
+      (leg : OptionVec2) → noCourse (norm velocity) || badRadius leg radius ≡ true →
+      lateralAccel leg position velocity point radius period damping ≡ level
   unfolding badRadius lateralAccel loiterAccel trackAccel
   gives-up Leg.None h = rw (or-assoc (noCourse (norm velocity)) (isNan radius) (le radius n0), h)
   gives-up (Leg.Some d) h = no-track (sym (or-false (noCourse (norm velocity))) ∙ h) (normalise d leastLeg)
 
-  pub steers : (leg : OptionVec2) → noCourse (norm velocity) || badRadius leg radius ≡ false → steer (aimOf leg position point radius) position velocity radius (norm velocity) period damping ≡ lateralAccel leg position velocity point radius period damping
+  pub steers :
+      (leg : OptionVec2) → noCourse (norm velocity) || badRadius leg radius ≡ false →
+      steer (aimOf leg position point radius) leg position velocity radius (norm velocity) period damping
+      ≡ lateralAccel leg position velocity point radius period damping
   unfolding badRadius aimOf lateralAccel loiterAccel trackAccel steer withCentripetal
   steers Leg.None h =
       rw (or-assoc (noCourse (norm velocity)) (isNan radius) (le radius n0), h)

@@ -32,49 +32,49 @@ checkShare x = Ieee.lt n0 x && Ieee.le x n1
 -- fields 1 to 14
 abbrev pub firstTests : PlaneGuidanceConfig → List Bool
 firstTests c =
-    within n0 (c .«max_bank_rad») fracPi2 ∷
-    within n0 (c .«max_pitch_up_rad») fracPi2 ∷
-    within n0 (c .«max_pitch_down_rad») fracPi2 ∷
-    checkLimit (c .«max_rate_radps» .x) ∷
-    checkLimit (c .«max_rate_radps» .y) ∷
-    checkLimit (c .«max_rate_radps» .z) ∷
-    within (neg fracPi2) (c .«trim_pitch_rad») fracPi2 ∷
-    within n0 (c .«cruise_thrust») n1 ∷
-    checkPositive (c .«l1_period_s») ∷
-    checkPositive (c .«l1_damping») ∷
-    checkPositive (c .«loiter_radius_m») ∷
-    checkLimit (c .«altitude_p») ∷
-    checkLimit (c .«altitude_i») ∷
-    checkLimit (c .«altitude_max_integral») ∷
+    within n0 (c .«max_bank_rad») fracPi2 ∷  -- 1
+    within n0 (c .«max_pitch_up_rad») fracPi2 ∷  -- 2
+    within n0 (c .«max_pitch_down_rad») fracPi2 ∷  -- 3
+    checkLimit (c .«max_rate_radps» .x) ∷  -- 4
+    checkLimit (c .«max_rate_radps» .y) ∷  -- 5
+    checkLimit (c .«max_rate_radps» .z) ∷  -- 6
+    within (neg fracPi2) (c .«trim_pitch_rad») fracPi2 ∷  -- 7
+    within n0 (c .«cruise_thrust») n1 ∷  -- 8
+    checkPositive (c .«l1_period_s») ∷  -- 9
+    checkPositive (c .«l1_damping») ∷  -- 10
+    checkPositive (c .«loiter_radius_m») ∷  -- 11
+    checkLimit (c .«altitude_p») ∷  -- 12
+    checkLimit (c .«altitude_i») ∷  -- 13
+    checkLimit (c .«altitude_max_integral») ∷  -- 14
     []
 
 -- fields 15 to 30
 abbrev pub tecsTests : TecsConfig → List Bool
 tecsTests t =
-    checkPositive (t .«time_constant_s») ∷
-    checkPositive (t .«max_climb_mps») ∷
-    checkPositive (t .«min_sink_mps») ∷
-    checkLimit (t .«max_sink_mps») ∷
-    checkLimit (t .«thrust_damping») ∷
-    checkLimit (t .«integrator_gain») ∷
-    checkLimit (t .«pitch_damping») ∷
-    checkLimit (t .«pitch_integrator_gain») ∷
-    within n0 (t .«speed_weight») n2 ∷
-    checkLimit (t .«roll_compensation») ∷
-    checkPositive (t .«min_airspeed_mps») ∷
-    checkPositive (t .«max_airspeed_mps») ∷
-    checkShare (t .«underspeed_share») ∷
-    checkPositive (t .«height_demand_time_constant_s») ∷
-    checkPositive (t .«airspeed_rate_time_constant_s») ∷
-    checkPositive (t .«kinetic_rate_high_pass_s») ∷
+    checkPositive (t .«time_constant_s») ∷  -- 15
+    checkPositive (t .«max_climb_mps») ∷  -- 16
+    checkPositive (t .«min_sink_mps») ∷  -- 17
+    checkLimit (t .«max_sink_mps») ∷  -- 18
+    checkLimit (t .«thrust_damping») ∷  -- 19
+    checkLimit (t .«integrator_gain») ∷  -- 20
+    checkLimit (t .«pitch_damping») ∷  -- 21
+    checkLimit (t .«pitch_integrator_gain») ∷  -- 22
+    within n0 (t .«speed_weight») n2 ∷  -- 23
+    checkLimit (t .«roll_compensation») ∷  -- 24
+    checkPositive (t .«min_airspeed_mps») ∷  -- 25
+    checkPositive (t .«max_airspeed_mps») ∷  -- 26
+    checkShare (t .«underspeed_share») ∷  -- 27
+    checkPositive (t .«height_demand_time_constant_s») ∷  -- 28
+    checkPositive (t .«airspeed_rate_time_constant_s») ∷  -- 29
+    checkPositive (t .«kinetic_rate_high_pass_s») ∷  -- 30
     []
 
 -- fields 31 to 33
 abbrev pub lastTests : PlaneGuidanceConfig → List Bool
 lastTests c =
-    within n0 (c .«min_thrust») n1 ∷
-    within n0 (c .«max_thrust») n1 ∷
-    checkLimit (c .«climb_thrust_per_rad») ∷
+    within n0 (c .«min_thrust») n1 ∷  -- 31
+    within n0 (c .«max_thrust») n1 ∷  -- 32
+    checkLimit (c .«climb_thrust_per_rad») ∷  -- 33
     []
 
 abbrev pub configTests : PlaneGuidanceConfig → List Bool

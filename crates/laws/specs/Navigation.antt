@@ -71,7 +71,7 @@ course direction velocity = arctangent2 (cross direction velocity) (dot directio
 
 -- ---- track
 
--- along a direction of length 1, with a ground speed that has a course; a result that isn't finite: 0
+-- along a normalised direction, with a ground speed that has a course; a result that isn't finite: 0
 unfoldable pub trackAlong : Vec2 → Vec2 → Vec2 → Vec2 → Float → Float → Float → Lateral
 trackAlong position velocity point direction speed period damping =
     let gains = l1 speed period damping in

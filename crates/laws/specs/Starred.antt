@@ -1,11 +1,10 @@
 -- The starred cases of document 01's "Both shores", and the fixed cases of its "Tempting here" that lie in these laws: one table,
 -- the values compared as bits. A case more is a line more. Definitions only.
 use Prim.Native.Nat.{ℕ}
-use mathlib.Core.Bool.{Bool, true, _&&_}
 use mathlib.Core.List.{List, [], _∷_}
-use lib.Dec.{eqb}
-use lib.Ieee.{Float, nan, binary32, toBits}
+use lib.Ieee.{Float, nan, binary32}
 use Rattle.arithmetic.specs.Constants.{f32}
+use Rattle.arithmetic.specs.Table.{Case, _is_, bits}
 use Rattle.arithmetic.specs.Order.{least}
 use Rattle.arithmetic.specs.Root.{rootOf}
 use Rattle.arithmetic.specs.Trigonometry.{cosine, arctangent2}
@@ -17,18 +16,6 @@ use Rattle.laws.specs.declared.config.TecsConfig.{TecsConfig}
 use Rattle.laws.specs.declared.config.PlaneGuidanceConfig.{PlaneGuidanceConfig}
 use Rattle.laws.specs.declared.navigation.PiLoop.{PiLoop}
 use Rattle.laws.specs.declared.navigation.PiResult.{PiResult}
-
--- what a definition gives, and what document 01 says that it is
-pub record Case : Type 0 where
-  pub given : ℕ
-  pub expected : ℕ
-
-infix 4 _is_
-abbrev pub _is_ : ℕ → ℕ → Case
-a is b = record { given = a; expected = b }
-
-abbrev pub bits : Float → ℕ
-bits x = toBits binary32 x
 
 -- ---- numbers
 
@@ -177,8 +164,3 @@ table =
     (tecsValidate (tecsWith one ten eight half) is 0) ∷
     (bits (clampAirspeed (tecsWith one ten eight half) nine) is 0x41200000) ∷
     []
-
--- every case of the table gives what is expected
-unfoldable pub allHold : List Case → Bool
-allHold [] = true
-allHold (c ∷ cs) = eqb (c .given) (c .expected) && allHold cs

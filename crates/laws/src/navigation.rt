@@ -24,7 +24,7 @@ use arithmetic::vector::normalise;
 ghost use mathlib.Core.Path.{_≡_};
 ghost use Rattle.arithmetic.specs.Vector.{normalise as unit};
 ghost use Rattle.laws.specs.Navigation as spec;
-ghost use Rattle.laws.specs.Steering as steering;
+ghost use Rattle.laws.specs.code.Steering as steering;
 
 // Below this ground speed the path has no course to compare against.
 const MIN_GROUND_SPEED_MPS: f32 = 1.0;
@@ -42,13 +42,16 @@ pub struct L1Gains {
     pub gain: f32,
 }
 
-// Where a lateral law steers: along `direction` through `point`. A loiter has neither within 1e-3 of its centre, where
-// nothing is found.
-pub struct Aim {
+// The line through `point` along `direction`, which has any length.
+pub struct Line {
     pub point: Vec2,
     pub direction: Vec2,
-    pub loiters: bool,
-    pub found: bool,
+}
+
+// Where a lateral law steers: along a line, or, within 1e-3 of a loiter's centre, along none.
+pub enum Aim {
+    Line(Line),
+    Center,
 }
 
 // A PI loop with a clamped output; it holds only its integral.
@@ -87,7 +90,7 @@ fn difference(a: Vec2, b: Vec2) -> Vec2
     }
 }
 
-// Past ±1 the arcsine is ±FRAC_PI_2, which is clamped: no root is taken.
+// Past ±1 the clamped ratio's arcsine is ±FRAC_PI_2, beyond the capture's limit: no root is taken.
 fn capture(cross_track_m: f32, distance_m: f32) -> f32
     ensures { λ r. ⌜ r ≡ spec.capture «cross_track_m» «distance_m» ⌝ }
 {
@@ -107,7 +110,7 @@ fn course(direction: Vec2, velocity_mps: Vec2) -> f32
     arctangent2(cross(direction, velocity_mps), dot(direction, velocity_mps))
 }
 
-// The law along a direction of length 1, at a ground speed that has a course.
+// The law along a normalised direction (zeros where the leg's length overflows), at a ground speed that has a course.
 fn track_along(
     position_m: Vec2,
     velocity_mps: Vec2,
@@ -168,13 +171,8 @@ fn circle(position_m: Vec2, center_m: Vec2, radius_m: f32) -> Aim
     ensures { λ r. ⌜ r ≡ steering.circle «center_m» «radius_m» (unit (spec.difference «position_m» «center_m») spec.leastOffset) ⌝ }
 {
     match normalise(difference(position_m, center_m), 1e-3) {
-        Normalised::None => Aim {
-            point: center_m,
-            direction: center_m,
-            loiters: true,
-            found: false,
-        },
-        Normalised::Parts(outward) => Aim {
+        Normalised::None => Aim::Center,
+        Normalised::Parts(outward) => Aim::Line(Line {
             point: Vec2 {
                 x: center_m.x + outward.x * radius_m,
                 y: center_m.y + outward.y * radius_m,
@@ -183,9 +181,7 @@ fn circle(position_m: Vec2, center_m: Vec2, radius_m: f32) -> Aim
                 x: -outward.y,
                 y: outward.x,
             },
-            loiters: true,
-            found: true,
-        },
+        }),
     }
 }
 
@@ -194,12 +190,10 @@ fn aim_of(leg: OptionVec2, position_m: Vec2, point_m: Vec2, radius_m: f32) -> Ai
 {
     match leg {
         OptionVec2::None => circle(position_m, point_m, radius_m),
-        OptionVec2::Some(direction) => Aim {
+        OptionVec2::Some(direction) => Aim::Line(Line {
             point: point_m,
             direction,
-            loiters: false,
-            found: true,
-        },
+        }),
     }
 }
 
@@ -212,20 +206,21 @@ fn bad_radius(leg: OptionVec2, radius_m: f32) -> bool
     }
 }
 
-fn with_centripetal(loiters: bool, speed_mps: f32, radius_m: f32, tracked: Lateral) -> Lateral
-    ensures { λ r. ⌜ r ≡ steering.withCentripetal loiters «speed_mps» «radius_m» tracked ⌝ }
+// What a loiter adds to track.
+fn with_centripetal(leg: OptionVec2, speed_mps: f32, radius_m: f32, tracked: Lateral) -> Lateral
+    ensures { λ r. ⌜ r ≡ steering.withCentripetal leg «speed_mps» «radius_m» tracked ⌝ }
 {
-    if loiters {
-        Lateral {
+    match leg {
+        OptionVec2::None => Lateral {
             accel_mps2: centripetal(speed_mps, radius_m) + tracked.accel_mps2,
-        }
-    } else {
-        tracked
+        },
+        OptionVec2::Some(_) => tracked,
     }
 }
 
 fn steer(
-    a: Aim,
+    aim: Aim,
+    leg: OptionVec2,
     position_m: Vec2,
     velocity_mps: Vec2,
     radius_m: f32,
@@ -233,25 +228,26 @@ fn steer(
     period_s: f32,
     damping: f32,
 ) -> Lateral
-    ensures { λ r. ⌜ r ≡ steering.steer a «position_m» «velocity_mps» «radius_m» «speed_mps» «period_s» damping ⌝ }
+    ensures { λ r. ⌜ r ≡ steering.steer aim leg «position_m» «velocity_mps» «radius_m» «speed_mps» «period_s» damping ⌝ }
 {
-    if a.found {
-        let point = a.point;
-        let direction = a.direction;
-        let tracked = track_to(
-            position_m,
-            velocity_mps,
-            point,
-            direction,
-            speed_mps,
-            period_s,
-            damping,
-        );
-        with_centripetal(a.loiters, speed_mps, radius_m, tracked)
-    } else {
-        Lateral {
-            accel_mps2: centripetal(speed_mps, radius_m),
+    match aim {
+        Aim::Line(line) => {
+            let point = line.point;
+            let direction = line.direction;
+            let tracked = track_to(
+                position_m,
+                velocity_mps,
+                point,
+                direction,
+                speed_mps,
+                period_s,
+                damping,
+            );
+            with_centripetal(leg, speed_mps, radius_m, tracked)
         }
+        Aim::Center => Lateral {
+            accel_mps2: centripetal(speed_mps, radius_m),
+        },
     }
 }
 
@@ -272,9 +268,10 @@ pub fn lateral_accel_mps2(
     if no_course(speed_mps) | bad_radius(leg, radius_m) {
         return Lateral { accel_mps2: 0.0 };
     }
-    let a = aim_of(leg, position_m, point_m, radius_m);
+    let aim = aim_of(leg, position_m, point_m, radius_m);
     steer(
-        a,
+        aim,
+        leg,
         position_m,
         velocity_mps,
         radius_m,

@@ -167,81 +167,81 @@ fn clamp_airspeed(config: TecsConfig, airspeed_mps: f32) -> f32
     )
 }
 
-fn seed_demand(config: TecsConfig, f: Inputs) -> Demand
-    ensures { λ r. ⌜ r ≡ spec.seedDemand config f ⌝ }
+fn seed_demand(config: TecsConfig, inputs: Inputs) -> Demand
+    ensures { λ r. ⌜ r ≡ spec.seedDemand config inputs ⌝ }
 {
-    let entry_climb_mps = clamp(f.climb_mps, -config.max_sink_mps, config.max_climb_mps);
+    let entry_climb_mps = clamp(inputs.climb_mps, -config.max_sink_mps, config.max_climb_mps);
     Demand {
-        slewed_height_m: f.height_m + entry_climb_mps * config.height_demand_time_constant_s,
-        height_m: f.height_m,
-        airspeed_mps: clamp_airspeed(config, f.airspeed_mps),
+        slewed_height_m: inputs.height_m + entry_climb_mps * config.height_demand_time_constant_s,
+        height_m: inputs.height_m,
+        airspeed_mps: clamp_airspeed(config, inputs.airspeed_mps),
     }
 }
 
-fn previous_demand(s: Tecs, config: TecsConfig, f: Inputs) -> Demand
-    ensures { λ r. ⌜ r ≡ spec.previousDemand s config f ⌝ }
+fn previous_demand(s: Tecs, config: TecsConfig, inputs: Inputs) -> Demand
+    ensures { λ r. ⌜ r ≡ spec.previousDemand s config inputs ⌝ }
 {
     if flag(s.seeded) {
         let demand = s.demand;
         demand
     } else {
-        seed_demand(config, f)
+        seed_demand(config, inputs)
     }
 }
 
-fn slewed_height(previous_m: f32, config: TecsConfig, f: Inputs) -> f32
-    ensures { λ r. ⌜ r ≡ spec.slewedHeight «previous_m» config f ⌝ }
+fn slewed_height(previous_m: f32, config: TecsConfig, inputs: Inputs) -> f32
+    ensures { λ r. ⌜ r ≡ spec.slewedHeight «previous_m» config inputs ⌝ }
 {
     let window_s = greatest(config.time_constant_s, config.height_demand_time_constant_s);
     let rise_m = clamp(
-        f.altitude_m - previous_m,
-        -config.max_sink_mps * f.dt,
-        config.max_climb_mps * f.dt,
+        inputs.altitude_m - previous_m,
+        -config.max_sink_mps * inputs.dt,
+        config.max_climb_mps * inputs.dt,
     );
     clamp(
         previous_m + rise_m,
-        f.height_m - window_s * config.max_sink_mps,
-        f.height_m + window_s * config.max_climb_mps,
+        inputs.height_m - window_s * config.max_sink_mps,
+        inputs.height_m + window_s * config.max_climb_mps,
     )
 }
 
-fn slewed_airspeed(previous_mps: f32, config: TecsConfig, f: Inputs, speed_mps: f32) -> f32
-    ensures { λ r. ⌜ r ≡ spec.slewedAirspeed «previous_mps» config f «speed_mps» ⌝ }
+fn slewed_airspeed(previous_mps: f32, config: TecsConfig, inputs: Inputs, speed_mps: f32) -> f32
+    ensures { λ r. ⌜ r ≡ spec.slewedAirspeed «previous_mps» config inputs «speed_mps» ⌝ }
 {
     let max_accel_mps2 = 0.5 * max_energy_rate(config) / speed_mps;
-    let target_mps = clamp_airspeed(config, f.airspeed_target_mps);
+    let target_mps = clamp_airspeed(config, inputs.airspeed_target_mps);
     previous_mps
         + clamp(
             target_mps - previous_mps,
-            -max_accel_mps2 * f.dt,
-            max_accel_mps2 * f.dt,
+            -max_accel_mps2 * inputs.dt,
+            max_accel_mps2 * inputs.dt,
         )
 }
 
-fn next_demand(d: Demand, config: TecsConfig, f: Inputs, speed_mps: f32) -> Demand
-    ensures { λ r. ⌜ r ≡ spec.nextDemand d config f «speed_mps» ⌝ }
+fn next_demand(d: Demand, config: TecsConfig, inputs: Inputs, speed_mps: f32) -> Demand
+    ensures { λ r. ⌜ r ≡ spec.nextDemand d config inputs «speed_mps» ⌝ }
 {
-    let slewed_m = slewed_height(d.slewed_height_m, config, f);
+    let slewed_m = slewed_height(d.slewed_height_m, config, inputs);
     Demand {
         slewed_height_m: slewed_m,
         height_m: lagged(
             d.height_m,
             slewed_m,
-            f.dt,
+            inputs.dt,
             config.height_demand_time_constant_s,
         ),
-        airspeed_mps: slewed_airspeed(d.airspeed_mps, config, f, speed_mps),
+        airspeed_mps: slewed_airspeed(d.airspeed_mps, config, inputs, speed_mps),
     }
 }
 
-fn accel_of(filtered_mps: f32, config: TecsConfig, f: Inputs) -> f32
-    ensures { λ r. ⌜ r ≡ spec.accelOf «filtered_mps» config f ⌝ }
+fn accel_of(filtered_mps: f32, config: TecsConfig, inputs: Inputs) -> f32
+    ensures { λ r. ⌜ r ≡ spec.accelOf «filtered_mps» config inputs ⌝ }
 {
-    (f.airspeed_mps - filtered_mps) / config.airspeed_rate_time_constant_s
+    (inputs.airspeed_mps - filtered_mps) / config.airspeed_rate_time_constant_s
 }
 
-fn previous_filter(s: Tecs, config: TecsConfig, f: Inputs) -> Filter
-    ensures { λ r. ⌜ r ≡ spec.previousFilter s config f ⌝ }
+fn previous_filter(s: Tecs, config: TecsConfig, inputs: Inputs) -> Filter
+    ensures { λ r. ⌜ r ≡ spec.previousFilter s config inputs ⌝ }
 {
     if flag(s.seeded) {
         Filter {
@@ -250,27 +250,27 @@ fn previous_filter(s: Tecs, config: TecsConfig, f: Inputs) -> Filter
         }
     } else {
         Filter {
-            filtered_airspeed_mps: f.airspeed_mps,
-            steady_accel_mps2: accel_of(f.airspeed_mps, config, f),
+            filtered_airspeed_mps: inputs.airspeed_mps,
+            steady_accel_mps2: accel_of(inputs.airspeed_mps, config, inputs),
         }
     }
 }
 
-fn next_filter(k: Filter, config: TecsConfig, f: Inputs) -> Filter
-    ensures { λ r. ⌜ r ≡ spec.nextFilter k config f ⌝ }
+fn next_filter(filter: Filter, config: TecsConfig, inputs: Inputs) -> Filter
+    ensures { λ r. ⌜ r ≡ spec.nextFilter filter config inputs ⌝ }
 {
-    let accel_mps2 = accel_of(k.filtered_airspeed_mps, config, f);
+    let accel_mps2 = accel_of(filter.filtered_airspeed_mps, config, inputs);
     Filter {
         filtered_airspeed_mps: lagged(
-            k.filtered_airspeed_mps,
-            f.airspeed_mps,
-            f.dt,
+            filter.filtered_airspeed_mps,
+            inputs.airspeed_mps,
+            inputs.dt,
             config.airspeed_rate_time_constant_s,
         ),
         steady_accel_mps2: lagged(
-            k.steady_accel_mps2,
+            filter.steady_accel_mps2,
             accel_mps2,
-            f.dt,
+            inputs.dt,
             config.kinetic_rate_high_pass_s,
         ),
     }
@@ -279,18 +279,19 @@ fn next_filter(k: Filter, config: TecsConfig, f: Inputs) -> Filter
 fn energies_of(
     previous: Demand,
     next: Demand,
-    k: Filter,
+    filter: Filter,
     config: TecsConfig,
-    f: Inputs,
+    inputs: Inputs,
     speed_mps: f32,
 ) -> Energies
-    ensures { λ r. ⌜ r ≡ spec.energiesOf previous next k config f «speed_mps» ⌝ }
+    ensures { λ r. ⌜ r ≡ spec.energiesOf previous next filter config inputs «speed_mps» ⌝ }
 {
-    let height_rate_mps = (next.height_m - previous.height_m) / f.dt;
-    let changing_accel_mps2 = accel_of(k.filtered_airspeed_mps, config, f) - k.steady_accel_mps2;
-    let potential_error = GRAVITY * (next.height_m - f.height_m);
+    let height_rate_mps = (next.height_m - previous.height_m) / inputs.dt;
+    let changing_accel_mps2 = accel_of(filter.filtered_airspeed_mps, config, inputs)
+        - filter.steady_accel_mps2;
+    let potential_error = GRAVITY * (next.height_m - inputs.height_m);
     let kinetic_error = 0.5
-        * (next.airspeed_mps * next.airspeed_mps - f.airspeed_mps * f.airspeed_mps);
+        * (next.airspeed_mps * next.airspeed_mps - inputs.airspeed_mps * inputs.airspeed_mps);
     Energies {
         potential_error,
         kinetic_error,
@@ -300,21 +301,26 @@ fn energies_of(
             max_energy_rate(config),
         ),
         kinetic_rate_demand: kinetic_error / config.time_constant_s,
-        potential_rate: GRAVITY * f.climb_mps,
+        potential_rate: GRAVITY * inputs.climb_mps,
         kinetic_rate: speed_mps * changing_accel_mps2,
         speed_mps,
     }
 }
 
 // The Rust's Tecs::energies, whose name differs from its struct's only in the case of a letter.
-pub fn update_energies(s: Tecs, config: TecsConfig, f: Inputs, speed_mps: f32) -> EnergiesResult
-    ensures { λ r. ⌜ r ≡ spec.energies s config f «speed_mps» ⌝ }
+pub fn update_energies(
+    s: Tecs,
+    config: TecsConfig,
+    inputs: Inputs,
+    speed_mps: f32,
+) -> EnergiesResult
+    ensures { λ r. ⌜ r ≡ spec.energies s config inputs «speed_mps» ⌝ }
 {
-    let previous = previous_demand(s, config, f);
-    let demand = next_demand(previous, config, f, speed_mps);
-    let k = previous_filter(s, config, f);
-    let energies = energies_of(previous, demand, k, config, f, speed_mps);
-    let filter = next_filter(k, config, f);
+    let previous = previous_demand(s, config, inputs);
+    let demand = next_demand(previous, config, inputs, speed_mps);
+    let before = previous_filter(s, config, inputs);
+    let energies = energies_of(previous, demand, before, config, inputs, speed_mps);
+    let filter = next_filter(before, config, inputs);
     EnergiesResult {
         energies,
         demand,
@@ -450,14 +456,14 @@ pub fn pitch(
     }
 }
 
-pub fn all_inputs_finite(f: Inputs) -> bool
-    ensures { λ r. ⌜ r ≡ spec.allInputsFinite f ⌝ }
+pub fn all_inputs_finite(inputs: Inputs) -> bool
+    ensures { λ r. ⌜ r ≡ spec.allInputsFinite inputs ⌝ }
 {
-    is_finite(f.altitude_m)
-        & is_finite(f.airspeed_target_mps)
-        & is_finite(f.airspeed_mps)
-        & is_finite(f.height_m)
-        & is_finite(f.climb_mps)
+    is_finite(inputs.altitude_m)
+        & is_finite(inputs.airspeed_target_mps)
+        & is_finite(inputs.airspeed_mps)
+        & is_finite(inputs.height_m)
+        & is_finite(inputs.climb_mps)
 }
 
 // What the Rust's step gives where an input is not finite.
@@ -472,12 +478,12 @@ pub fn hold(s: Tecs, limits: Limits) -> TecsResult
 }
 
 // What the Rust's step gives where all inputs are finite.
-pub fn step(s: Tecs, config: TecsConfig, limits: Limits, f: Inputs) -> TecsResult
-    ensures { λ r. ⌜ r ≡ spec.step s config limits f ⌝ }
+pub fn energy_step(s: Tecs, config: TecsConfig, limits: Limits, inputs: Inputs) -> TecsResult
+    ensures { λ r. ⌜ r ≡ spec.energyStep s config limits inputs ⌝ }
 {
-    let underspeed = update_underspeed(s.underspeed, config, f.airspeed_mps);
-    let speed_mps = greatest(f.airspeed_mps, MIN_GAIN_AIRSPEED_MPS);
-    let r = update_energies(s, config, f, speed_mps);
+    let underspeed = update_underspeed(s.underspeed, config, inputs.airspeed_mps);
+    let speed_mps = greatest(inputs.airspeed_mps, MIN_GAIN_AIRSPEED_MPS);
+    let r = update_energies(s, config, inputs, speed_mps);
     let e = r.energies;
     let demand = r.demand;
     let th = thrust(
@@ -486,10 +492,17 @@ pub fn step(s: Tecs, config: TecsConfig, limits: Limits, f: Inputs) -> TecsResul
         config,
         limits,
         e,
-        f.dt,
-        f.roll_rad,
+        inputs.dt,
+        inputs.roll_rad,
     );
-    let p = pitch(underspeed, s.pitch_integral_rad, config, limits, e, f.dt);
+    let p = pitch(
+        underspeed,
+        s.pitch_integral_rad,
+        config,
+        limits,
+        e,
+        inputs.dt,
+    );
     TecsResult {
         tecs: Tecs {
             seeded: 1,
@@ -502,5 +515,16 @@ pub fn step(s: Tecs, config: TecsConfig, limits: Limits, f: Inputs) -> TecsResul
         },
         pitch_rad: p.pitch_rad,
         thrust: th.thrust,
+    }
+}
+
+// The Rust's Tecs::step. The guidance, which names its law first, calls the two parts.
+pub fn step(s: Tecs, config: TecsConfig, limits: Limits, inputs: Inputs) -> TecsResult
+    ensures { λ r. ⌜ r ≡ spec.step s config limits inputs ⌝ }
+{
+    if all_inputs_finite(inputs) {
+        energy_step(s, config, limits, inputs)
+    } else {
+        hold(s, limits)
     }
 }

@@ -15,7 +15,6 @@ use laws::tecs::Energies;
 use laws::tecs::Inputs;
 use laws::tecs::Limits;
 use laws::tecs::Tecs;
-use laws::tecs::TecsResult;
 use laws::types::Vec3;
 
 fn vec2(row: &[u8; 200], n: usize) -> Vec2 {
@@ -207,7 +206,7 @@ fn update_underspeed(row: &[u8; 200]) -> bool {
 
 // dt, the configuration, altitude, target, airspeed, floored airspeed, height, climb, roll, state.
 fn energies(row: &[u8; 200]) -> bool {
-    let f = Inputs {
+    let inputs = Inputs {
         dt: number(row, 0, 0),
         altitude_m: number(row, 0, 17),
         airspeed_target_mps: number(row, 0, 18),
@@ -217,7 +216,7 @@ fn energies(row: &[u8; 200]) -> bool {
         roll_rad: number(row, 0, 23),
     };
     let before = state(row, 24);
-    let r = tecs::update_energies(before, tecs_config(row, 1), f, number(row, 0, 20));
+    let r = tecs::update_energies(before, tecs_config(row, 1), inputs, number(row, 0, 20));
     let e = r.energies;
     let demand = r.demand;
     let after = Tecs {
@@ -265,18 +264,9 @@ fn pitch(row: &[u8; 200]) -> bool {
     same(row, 0, 39, r.pitch_rad) & same_state(row, 40, after)
 }
 
-// The Rust's step: a hold where an input is not finite.
-fn step_of(s: Tecs, t: TecsConfig, m: Limits, f: Inputs) -> TecsResult {
-    if tecs::all_inputs_finite(f) {
-        tecs::step(s, t, m, f)
-    } else {
-        tecs::hold(s, m)
-    }
-}
-
 // dt, the configuration, the limits, altitude, target, airspeed, height, climb, roll, state.
 fn tecs_step(row: &[u8; 200]) -> bool {
-    let f = Inputs {
+    let inputs = Inputs {
         dt: number(row, 0, 0),
         altitude_m: number(row, 0, 23),
         airspeed_target_mps: number(row, 0, 24),
@@ -285,7 +275,7 @@ fn tecs_step(row: &[u8; 200]) -> bool {
         climb_mps: number(row, 0, 27),
         roll_rad: number(row, 0, 28),
     };
-    let r = step_of(state(row, 29), tecs_config(row, 1), limits(row, 17), f);
+    let r = tecs::step(state(row, 29), tecs_config(row, 1), limits(row, 17), inputs);
     let s = r.tecs;
     same(row, 0, 38, r.pitch_rad) & same(row, 0, 39, r.thrust) & same_state(row, 40, s)
 }

@@ -4,7 +4,8 @@
 mod check;
 mod rows;
 
-use rows::Count;
+use case_rows::Count;
+use case_rows::print_count;
 
 fn main() {
     let mut total = Count { rows: 0, right: 0 };
@@ -32,5 +33,5 @@ fn main() {
     total = rows::try_group(b"document_01_pi_step", 10, 11, total);
     total = rows::try_group(b"document_01_update_underspeed", 11, 19, total);
     total = rows::try_group(b"document_01_validate", 16, 34, total);
-    rows::print_count(b"total", total);
+    print_count(b"total", total);
 }

@@ -1,14 +1,12 @@
 // Reading rows: words of four bytes, low byte first, at most 50 to a row.
 use crate::check;
-use libc::STDOUT_FILENO;
-ghost use mathlib.Core.Path.{_≡_};
+use case_rows::Count;
+use case_rows::bits;
+use case_rows::number_of;
+use case_rows::plus;
+use case_rows::print_count;
+use case_rows::word_of;
 ghost use Prim.Native.Nat.{_≤_};
-ghost use lib.Ieee.{binary32, ofBits, toBits};
-
-pub struct Count {
-    pub rows: u32,
-    pub right: u32,
-}
 
 // Whether there was a row, and 1 if its answer was right.
 struct Tried {
@@ -16,38 +14,10 @@ struct Tried {
     right: u32,
 }
 
-fn number_of(bits: u32) -> f32
-    ensures { λ r. ⌜ r ≡ ofBits binary32 bits ⌝ }
-{
-    if bits % 0x8000_0000 > 0x7f80_0000 {
-        return 0.0 / 0.0;
-    }
-    f32::from_bits(bits)
-}
-
-// Every NaN is 7fc00000.
-pub fn bits(x: f32) -> u32
-    ensures { λ r. ⌜ r ≡ toBits binary32 x ⌝ }
-{
-    if x != x {
-        return 0x7fc0_0000;
-    }
-    f32::to_bits(x)
-}
-
-fn wide(b: u8) -> u32
-    ensures { λ r. ⌜ r ≤ 255 ⌝ }
-{
-    b as u32
-}
-
 // Word n after a word of a row, which has 50.
 pub fn word(row: &[u8; 200], from: usize, n: usize) -> u32 {
     let at = (from % 50 + n % 50) % 50 * 4;
-    wide(row[at])
-        + wide(row[at + 1]) * 0x100
-        + wide(row[at + 2]) * 0x1_0000
-        + wide(row[at + 3]) * 0x100_0000
+    word_of(row[at], row[at + 1], row[at + 2], row[at + 3])
 }
 
 pub fn number(row: &[u8; 200], from: usize, n: usize) -> f32 {
@@ -96,15 +66,6 @@ fn try_rows(file: i32, law: u32, words: usize) -> Count
     Count { rows, right }
 }
 
-pub fn print_count(name: &[u8], count: Count) {
-    io::write_all(STDOUT_FILENO, name);
-    io::write_all(STDOUT_FILENO, b": ");
-    io::print_decimal(STDOUT_FILENO, count.right as u64);
-    io::write_all(STDOUT_FILENO, b" of ");
-    io::print_decimal(STDOUT_FILENO, count.rows as u64);
-    io::write_all(STDOUT_FILENO, b"\n");
-}
-
 // Tries the rows of one file, prints the count under the file's name, and adds it to the count before.
 pub fn try_group(name: &[u8], law: u32, words: usize, before: Count) -> Count
     requires { ⌜ words ≤ 50 ⌝ }
@@ -117,8 +78,5 @@ pub fn try_group(name: &[u8], law: u32, words: usize, before: Count) -> Count
     let count = try_rows(file, law, words);
     libc::close(file);
     print_count(name, count);
-    Count {
-        rows: std::num::wrapping_add_u32(before.rows, count.rows),
-        right: std::num::wrapping_add_u32(before.right, count.right),
-    }
+    plus(before, count)
 }

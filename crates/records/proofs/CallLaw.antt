@@ -23,10 +23,10 @@ use Rattle.fields.proofs.FieldLaw.{ones-low, ones-below, values-front, body-fro
 use Rattle.records.specs.declared.call.ByteRead.{ByteRead}
 use Rattle.records.specs.declared.call.Call.{Call}
 use Rattle.records.specs.declared.call.Call.the-variants.{Prime, Attitude, Rate, Waypoint, AbsoluteAttitude, Land, AbsoluteRate}
-use Rattle.records.specs.declared.call.Parts.{Parts}
-use Rattle.records.specs.declared.call.Record.{Record}
+use Rattle.records.specs.declared.call_writer.Parts.{Parts}
+use Rattle.records.specs.declared.call_writer.Record.{Record}
 use Rattle.records.specs.declared.call.ReadCall.the-variants.{Read, Refused}
-use Rattle.records.specs.Call.{zero, callFields, complete, unknown, byteAt, regimeOf, callOf, readCall, regimeByte, commandParts, waypointParts, partsOf, valuesOf, mapOfParts, byteOf, callRecord}
+use Rattle.records.specs.Call.{zero, callFields, complete, unknown, byteAt, regimeOf, callAt, readCall, regimeByte, commandParts, waypointParts, partsOf, valuesOf, mapOfParts, byteOf, callRecord}
 
 pub fields-long : length callFields ≡ 22
 unfolding callFields numberFields
@@ -70,7 +70,8 @@ module _ (n d : ℕ) (all : n + d ≡ 20) (m : ℕ) (h : m < 2 ^ n) where
       let split : replicate {A = ℕ} 20 0 ≡ replicate n 0 ++ replicate d 0 = sym (replicate-append-replicate n d 0 ∙ ap (λ (k : ℕ). replicate k 0) all) in
       ap (λ (l : List ℕ). valuesAt (numberFields l) m s) split ∙ values-front (replicate n 0) (replicate d 0) m s (rw long h)
 
-  pub front-floats : (s b : List ℕ) (v : List Float) → b ≡ valuesAt (numberFields (replicate n 0)) m s → v ≡ floatsOf b → v ++ replicate d zero ≡ floatsOf (valuesAt Numbers m s)
+  pub front-floats : (s b : List ℕ) (v : List Float) → b ≡ valuesAt (numberFields (replicate n 0)) m s → v ≡ floatsOf b
+      → v ++ replicate d zero ≡ floatsOf (valuesAt Numbers m s)
   front-floats s b v eb ev = rw (ev, eb, front-values s) (sym (floats-joined (valuesAt (numberFields (replicate n 0)) m s) (replicate d 0) ∙ rw (floats-none d)))
 
   pub front-body : (v : List ℕ) → length (take n v) ≡ n → bodyOf (numberFields (take n v)) m (take n v) ≡ bodyOf (numberFields v) m v
@@ -94,7 +95,8 @@ module _ (s : List ℕ) (at m d : ℕ) where
       go true e = rw (← byte-read e) (omega (arith, eqb-true (m % 2) 1 e))
       go false e = let n : m % 2 ≡ 1 → ⊥ = eqb-false (m % 2) 1 e in let l : m % 2 < 2 = mod-lt m (lit< tt) in rw (← byte-missing e) (omega arith)
 
-  pub values-byte : (fs : List Field) → valuesAt (record { bytes = 1; missing = d } ∷ fs) m (drop at s) ≡ byteAt s at m d .value ∷ valuesAt fs (m / 2) (drop (byteAt s at m d .rest .at) s)
+  pub values-byte : (fs : List Field)
+      → valuesAt (record { bytes = 1; missing = d } ∷ fs) m (drop at s) ≡ byteAt s at m d .value ∷ valuesAt fs (m / 2) (drop (byteAt s at m d .rest .at) s)
   unfolding valuesAt
   values-byte fs = go (stands m) refl
     where
@@ -161,7 +163,7 @@ module _ (s : List ℕ) (at : ℕ) where
         regime-above t u = refused (no-regime t u)
 
         pub whole : k .value ≤ 6 → g .value ≤ 1 → (v : List Float) (r : FlightRegime) (c : Call) → v ≡ floatsOf (valuesAt Numbers (m / 4) (drop (g .rest .at) s))
-            → r ≡ regimeOf (g .value) → c ≡ callOf (k .value) r m v → Read c (at + (4 + n)) ≡ readCall s at
+            → r ≡ regimeOf (g .value) → c ≡ callAt (k .value) r m v → Read c (at + (4 + n)) ≡ readCall s at
         unfolding readCall
         whole t u v r c ev er ec = rw (le-leb (at + 4) (length s) h, is-map, ← eb, q, ← en, le-leb (at + (4 + n)) (length s) l, values-are, known t u, ec, er, ev)
 
@@ -250,12 +252,17 @@ map-zero : mapOf (numberFields (replicate 15 0)) (replicate 15 0) (replicate 15 
 unfolding mapOf numberFields
 map-zero = refl
 
-pub front-map : (v : List ℕ) → drop 5 v ≡ replicate 15 0 → mapOf (numberFields (replicate 5 0)) (replicate (length (take 5 v)) 0) (take 5 v) ≡ mapOf Numbers (replicate 20 0) v
+pub front-map : (v : List ℕ) → drop 5 v ≡ replicate 15 0
+    → mapOf (numberFields (replicate 5 0)) (replicate (length (take 5 v)) 0) (take 5 v) ≡ mapOf Numbers (replicate 20 0) v
 front-map v e =
     let l : length (take 5 v) ≡ 5 = front-long v 0 e in
-    rw l (sym (ap (mapOf Numbers (replicate 20 0)) (sym (take-append-drop 5 v)) ∙ map-front (replicate 5 0) (replicate 15 0) (replicate 5 0) (replicate 15 0) (take 5 v) (drop 5 v) refl l (rw e map-zero)))
+    rw l
+    (sym
+    (ap (mapOf Numbers (replicate 20 0)) (sym (take-append-drop 5 v))
+    ∙ map-front (replicate 5 0) (replicate 15 0) (replicate 5 0) (replicate 15 0) (take 5 v) (drop 5 v) refl l (rw e map-zero)))
 
-pub map-is : (p : Parts) (v : List ℕ) (r : ℕ) → v ≡ bitsOf (p .numbers) → r ≡ 1 + 2 * (bitOf (isWritten 0 (p .regime) 1) + 2 * mapOf Numbers (p .keeps) v) → r ≡ mapOfParts p
+pub map-is : (p : Parts) (v : List ℕ) (r : ℕ) → v ≡ bitsOf (p .numbers)
+    → r ≡ 1 + 2 * (bitOf (isWritten 0 (p .regime) 1) + 2 * mapOf Numbers (p .keeps) v) → r ≡ mapOfParts p
 unfolding mapOfParts valuesOf mapOf
 map-is p v r ev er = er ∙ rw (fields-are, ev)
 
@@ -284,7 +291,8 @@ body-is m k g v l =
 
 -- the bytes of `write_fields`: the map, the two bytes, the numbers
 module _ (p₀ p₁ p₂ p₃ p₄ : List ℕ) (m k g second third : ℕ) (v : List ℕ) (h : 4 + sizeOf callFields m ≤ length p₀) (l : length v ≡ 20) where
-  pub fields-written : p₁ ≡ bytesOf 4 m ++ drop 4 p₀ → p₂ ≡ putAt p₁ 4 (byteOf m k) → second ≡ 4 + m % 2 → p₃ ≡ putAt p₂ second (byteOf (m / 2) g) → third ≡ second + m / 2 % 2
+  pub fields-written : p₁ ≡ bytesOf 4 m ++ drop 4 p₀ → p₂ ≡ putAt p₁ 4 (byteOf m k) → second ≡ 4 + m % 2 → p₃ ≡ putAt p₂ second (byteOf (m / 2) g)
+      → third ≡ second + m / 2 % 2
       → p₄ ≡ putAt p₃ third (bodyOf (numberFields v) (m / 4) v) → p₄ ≡ putAt p₀ 0 (bytesOf 4 m ++ bodyOf callFields m (k ∷ g ∷ v))
   fields-written e₁ e₂ es e₃ et e₄ =
       let room : 4 + m % 2 + m / 2 % 2 ≤ length p₀ = omega (arith, h, size-is m) in
@@ -296,18 +304,27 @@ module _ (p₀ p₁ p₂ p₃ p₄ : List ℕ) (m k g second third : ℕ) (v : L
       let q₃ : p₃ ≡ putAt p₀ 0 ((bytesOf 4 m ++ byteOf m k) ++ byteOf (m / 2) g) = put-next p₀ 0 second (bytesOf 4 m ++ byteOf m k) (byteOf (m / 2) g) q₂ (omega (arith, l₂, es)) (omega (arith, es)) e₃ in
       let q₄ : p₄ ≡ putAt p₀ 0 (((bytesOf 4 m ++ byteOf m k) ++ byteOf (m / 2) g) ++ bodyOf (numberFields v) (m / 4) v) = put-next p₀ 0 third ((bytesOf 4 m ++ byteOf m k) ++ byteOf (m / 2) g) (bodyOf (numberFields v) (m / 4) v) q₃ (omega (arith, l₃, es, et)) (omega (arith, es, et)) e₄ in
       let order : ((bytesOf 4 m ++ byteOf m k) ++ byteOf (m / 2) g) ++ bodyOf (numberFields v) (m / 4) v ≡ bytesOf 4 m ++ bodyOf callFields m (k ∷ g ∷ v) =
-      append-assoc (bytesOf 4 m ++ byteOf m k) (byteOf (m / 2) g) _ ∙ append-assoc (bytesOf 4 m) (byteOf m k) _ ∙ ap (λ (x : List ℕ). bytesOf 4 m ++ x) (sym (body-is m k g v l)) in
+      append-assoc (bytesOf 4 m ++ byteOf m k) (byteOf (m / 2) g) _
+      ∙ append-assoc (bytesOf 4 m) (byteOf m k) _
+      ∙ ap (λ (x : List ℕ). bytesOf 4 m ++ x) (sym (body-is m k g v l)) in
       q₄ ∙ ap (putAt p₀ 0) order
 
 -- the map of a record and its values are the call's
 abbrev pub IsRecord : Call → Record → Type 0
 IsRecord c r = (r .map ≡ mapOfParts (partsOf c)) × (r .kind ≡ partsOf c .kind) × (r .regime ≡ partsOf c .regime) × (r .numbers ≡ bitsOf (partsOf c .numbers))
 
-pub is-record : (c : Call) (p : Parts) (v : List ℕ) (m : ℕ) → p ≡ partsOf c → v ≡ bitsOf (p .numbers) → m ≡ 1 + 2 * (bitOf (isWritten 0 (p .regime) 1) + 2 * mapOf Numbers (p .keeps) v)
+pub is-record : (c : Call) (p : Parts) (v : List ℕ) (m : ℕ) → p ≡ partsOf c → v ≡ bitsOf (p .numbers)
+    → m ≡ 1 + 2 * (bitOf (isWritten 0 (p .regime) 1) + 2 * mapOf Numbers (p .keeps) v)
     → IsRecord c (record { map = m; kind = p .kind; regime = p .regime; numbers = v })
-is-record c p v m ep ev em = (map-is p v m ev em ∙ ap mapOfParts ep, ap (λ (q : Parts). q .kind) ep, ap (λ (q : Parts). q .regime) ep, ev ∙ ap (λ (q : Parts). bitsOf (q .numbers)) ep)
+is-record c p v m ep ev em = (
+  map-is p v m ev em ∙ ap mapOfParts ep,
+  ap (λ (q : Parts). q .kind) ep,
+  ap (λ (q : Parts). q .regime) ep,
+  ev ∙ ap (λ (q : Parts). bitsOf (q .numbers)) ep,
+)
 
-pub is-command : (c : Call) (p : Parts) (v : List ℕ) (m : ℕ) → p ≡ partsOf c → (p .kind ≡ 3 → ⊥) → v ≡ bitsOf (p .numbers) → m ≡ 1 + 2 * (bitOf (isWritten 0 (p .regime) 1) + 2 * mapOf Numbers (replicate 20 0) v)
+pub is-command : (c : Call) (p : Parts) (v : List ℕ) (m : ℕ) → p ≡ partsOf c → (p .kind ≡ 3 → ⊥) → v ≡ bitsOf (p .numbers)
+    → m ≡ 1 + 2 * (bitOf (isWritten 0 (p .regime) 1) + 2 * mapOf Numbers (replicate 20 0) v)
     → IsRecord c (record { map = m; kind = p .kind; regime = p .regime; numbers = v })
 is-command c p v m ep h ev em = is-record c p v m ep ev (em ∙ sym (rw (keeps-none c p ep h)))
 

@@ -21,7 +21,7 @@ use Rattle.fields.specs.Bytes.{numberAt, bytesOf, hasBytes}
 use Rattle.fields.specs.Fields.{Field, stands, named, sizeOf, valuesAt, mapOf, bodyOf, numberFields}
 use Rattle.fields.specs.Numbers.{floatsOf, bitsOf}
 use Rattle.records.specs.declared.call.ByteRead.{ByteRead}
-use Rattle.records.specs.declared.call.Parts.{Parts}
+use Rattle.records.specs.declared.call_writer.Parts.{Parts}
 use Rattle.records.specs.declared.call.Call.{Call}
 use Rattle.records.specs.declared.call.Call.the-variants.{Prime, Attitude, Rate, Waypoint, AbsoluteAttitude, Land, AbsoluteRate}
 use Rattle.records.specs.declared.call.ReadCall.{ReadCall}
@@ -100,8 +100,8 @@ stateAt m v = record {
 }
 
 -- the call of a kind: a field that its kind doesn't use is no part of it; 2 time step; 21 cap
-unfoldable pub callOf : ℕ → FlightRegime → ℕ → List Float → Call
-callOf kind r m v =
+unfoldable pub callAt : ℕ → FlightRegime → ℕ → List Float → Call
+callAt kind r m v =
     cond (eqb kind 0) Prime
     (cond (eqb kind 1) (Attitude r (at v 2) (attitudeAt v))
     (cond (eqb kind 2) (Rate r (at v 2) (rateAt v))
@@ -122,7 +122,7 @@ readCall s at =
     (cond (not (complete map)) (read.Refused 6)
     (cond (not (hasBytes s at size)) (read.Refused 5)
     (cond (unknown kind regime) (read.Refused 7)
-    (read.Read (callOf kind (regimeOf regime) map (floatsOf (drop 2 values))) (at + size)))))
+    (read.Read (callAt kind (regimeOf regime) map (floatsOf (drop 2 values))) (at + size)))))
 
 -- ---- writing
 

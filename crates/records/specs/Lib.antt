@@ -1,4 +1,3 @@
 -- Document 01, "Records and desk program": the configuration record and the call record.
 pub mod Config
 pub mod Call
-pub mod Laws

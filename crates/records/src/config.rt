@@ -22,6 +22,9 @@ ghost use Rattle.fields.specs.Numbers.{floatsOf, bitsOf};
 ghost use Rattle.records.specs.Config.{configFields, readConfig, configRecord};
 ghost use Rattle.fields.specs.Writing.{answerOf, bufferOf};
 
+// Bit n-1 of the map is field n; from this one on no bit is named.
+const FIRST_UNNAMED: u64 = 1 << 33;
+
 // What the reader answers: the configuration and the place after the record, or the refusal's number.
 pub enum ReadConfig {
     Read {
@@ -41,7 +44,7 @@ pub fn read_config(s: &[u8], at: usize) -> ReadConfig
         return ReadConfig::Refused(5);
     }
     let map = read_number(&s[at..], 5);
-    if 8589934592 <= map {
+    if FIRST_UNNAMED <= map {
         return ReadConfig::Refused(6);
     }
     let size = 5 + 4 * count(map);

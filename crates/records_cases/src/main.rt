@@ -6,7 +6,7 @@ use libc::STDOUT_FILENO;
 use records::call::Call;
 use records::call::ReadCall;
 use records::call::read_call;
-use records::call::write_call;
+use records::call_writer::write_call;
 use records::config::ReadConfig;
 use records::config::read_config;
 use records::config::write_config;

@@ -12,7 +12,7 @@ use Rattle.laws.specs.Config.{validate}
 use Rattle.laws.specs.declared.config.PlaneGuidanceConfig.{PlaneGuidanceConfig}
 use Rattle.laws.specs.declared.types.Setpoint.{Setpoint}
 use Rattle.laws.specs.declared.types.Setpoint.the-variants as Set
-use Rattle.guidance.specs.Calls.{Reply, answered, done, field, perform}
+use Rattle.claims.specs.Calls.{Reply, answered, done, field, perform}
 use Rattle.guidance.specs.Plane.{fresh, created}
 use Rattle.guidance.specs.declared.plane.PlaneGuidance.{PlaneGuidance}
 use Rattle.guidance.specs.declared.plane.Created.{Created}
@@ -30,11 +30,11 @@ use Rattle.lines.specs.declared.Line.{Line}
 use Rattle.lines.specs.declared.Word.{Word}
 use Rattle.lines.specs.Line.{text}
 use Rattle.lines.proofs.TextLaw.{text-short}
-use Rattle.replay.specs.declared.turn.Performed.{Performed}
+use Rattle.replay.specs.declared.turn.CallLine.{CallLine}
 use Rattle.replay.specs.Recording.{Calls, noCalls, onRead, readCalls, stops, recording}
 use Rattle.replay.specs.Text.{refusedLine, stoppedLine, primeLine, setpointLine, answerLine, replyLine, callLines, runLines, recordingLines, linesText, recordingText}
-use Rattle.replay.specs.Performed.{performedOf}
-use Rattle.replay.specs.Pass.{Prints, callsText}
+use Rattle.replay.specs.code.Performed.{callLine}
+use Rattle.replay.specs.code.Pass.{Prints, callsText}
 use Rattle.replay.proofs.PrintLaw.{Printed, printed-none, printed-room, printed-more, printed-all, printed-last, last-room}
 
 -- what the calls from a place on print, of which k may still come, the next with number n
@@ -56,8 +56,8 @@ module _ (n : ℕ) (g : PlaneGuidance) (s : List ℕ) (at : ℕ) where
   rest-bad k r h e = rw (lt-leb (length s) at h, e, add-zero n) (append-nil _)
 
   rest-call : (k : ℕ) (call : Call) (next : ℕ) → at < length s → readCall s at ≡ Read call next
-      → rest (suc k) n g s at ≡ text (performedOf n g call .line) ++ rest k (n + 1) (performedOf n g call .guidance) s next
-  unfolding readCalls runLines callLines linesText performedOf
+      → rest (suc k) n g s at ≡ text (callLine n g call .line) ++ rest k (n + 1) (callLine n g call .guidance) s next
+  unfolding readCalls runLines callLines linesText callLine
   rest-call k call next h e =
       let z : n + suc (length (readCalls k s next .calls)) ≡ n + 1 + length (readCalls k s next .calls) = omega arith in
       rw (lt-leb (length s) at h, e, z)
@@ -81,8 +81,8 @@ reply-count n (answered a) = answer-count n a
 reply-count n done = omega arith
 reply-count n (field f) = omega arith
 
-pub turn-count : (n : ℕ) (g : PlaneGuidance) (k : Call) → performedOf n g k .line .count ≤ 4
-unfolding performedOf
+pub turn-count : (n : ℕ) (g : PlaneGuidance) (k : Call) → callLine n g k .line .count ≤ 4
+unfolding callLine
 turn-count n g k = reply-count n _
 
 pub stopped-count : (n r : ℕ) → stoppedLine n r .count ≤ 4
@@ -110,7 +110,7 @@ rest-short (suc k) n g s at = go (leb (length s) at) refl (readCall s at) refl (
     go false e (Refused r) q ih = rw (rest-bad n g s at k r (leb-false (length s) at e) q) (line-short _ (stopped-count n r) (80 * suc k))
     go false e (Read call next) q ih =
         rw (rest-call n g s at k call next (leb-false (length s) at e) q)
-        (simp length-append (omega (arith, text-short (performedOf n g call .line) (turn-count n g call), ih (n + 1) (performedOf n g call .guidance) next)))
+        (simp length-append (omega (arith, text-short (callLine n g call .line) (turn-count n g call), ih (n + 1) (callLine n g call .guidance) next)))
 
 -- ---- `calls`
 
@@ -142,17 +142,17 @@ module _ {s : List ℕ} {from : ℕ} {first : PlaneGuidance} {w : Bool} {out₀ 
       let k : 4097 - n ≡ 0 = omega arith in
       rw (k, rest-nine n g s at l) at (f .printed)
 
-  pub left-call : n ≤ 4096 → at < length s → (call : Call) (next : ℕ) → readCall s at ≡ Read call next → (t : Performed) → t ≡ performedOf n g call
+  pub left-call : n ≤ 4096 → at < length s → (call : Call) (next : ℕ) → readCall s at ≡ Read call next → (t : CallLine) → t ≡ callLine n g call
       → Left (text (t .line) ++ rest (4096 - n) (n + 1) (t .guidance) s next)
   left-call h l call next e t q =
       let k : 4097 - n ≡ suc (4096 - n) = omega arith in
       rw q (rw (k, rest-call n g s at (4096 - n) call next l e) at (f .printed))
 
-  pub call-turn : n ≤ 4096 → at < length s → (call : Call) (next : ℕ) → readCall s at ≡ Read call next → (t : Performed) → t ≡ performedOf n g call
+  pub call-turn : n ≤ 4096 → at < length s → (call : Call) (next : ℕ) → readCall s at ≡ Read call next → (t : CallLine) → t ≡ callLine n g call
       → (after : List ℕ) (r : ℕ) → Prints w to (text (t .line)) out after r → Calling s from first w out₀ after (t .guidance) next r (n + 1)
   call-turn h l call next e t q after r p =
       let k : 4097 - (n + 1) ≡ 4096 - n = omega arith in
-      let short : length (text (t .line)) ≤ 80 = rw q (text-short (performedOf n g call .line) (turn-count n g call)) in
+      let short : length (text (t .line)) ≤ 80 = rw q (text-short (callLine n g call .line) (turn-count n g call)) in
       record {
         high = omega arith;
         small = omega (arith, f .small, p .place);
@@ -167,7 +167,7 @@ module _ {s : List ℕ} {from : ℕ} {first : PlaneGuidance} {w : Bool} {out₀ 
   stop-ends r l e left after p prints = printed-last (text (stoppedLine n r)) after p left (rw e at prints)
 
   -- and for a call's line
-  pub turn-asks : n ≤ 4096 → at < length s → (call : Call) (next : ℕ) → readCall s at ≡ Read call next → (t : Performed) → t ≡ performedOf n g call
+  pub turn-asks : n ≤ 4096 → at < length s → (call : Call) (next : ℕ) → readCall s at ≡ Read call next → (t : CallLine) → t ≡ callLine n g call
       → (t .line .count ≤ 4) × (to ≤ 327680) × (w ≡ true → to + length (text (t .line)) ≤ length out)
   turn-asks h l call next e t q =
       (rw q (turn-count n g call), omega (arith, f .small, f .high), λ (z : w ≡ true). printed-room (text (t .line)) _ (left-call h l call next e t q) z)

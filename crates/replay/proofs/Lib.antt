@@ -1,3 +1,5 @@
 -- Laws of the replay.
 pub mod PrintLaw
 pub mod CallsLaw
+pub mod Window
+pub mod Cut

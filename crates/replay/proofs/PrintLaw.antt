@@ -15,7 +15,7 @@ use Rattle.fields.proofs.FieldLaw.{rest-is, put-lent}
 use Rattle.lines.specs.declared.Line.{Line}
 use Rattle.lines.specs.Line.{text, Puts}
 use Rattle.lines.proofs.PutLaw.{put-long, put-then}
-use Rattle.replay.specs.Pass.{Prints}
+use Rattle.replay.specs.code.Pass.{Prints}
 
 -- room in the rest of a buffer
 pub print-room : (out : List ℕ) (to n : ℕ) → to + n ≤ length out → n ≤ length (take (length out - to) (drop to out))

@@ -38,6 +38,10 @@ abbrev pub onRead : ℕ → ReadCall → (ℕ → Calls) → Calls
 onRead place (read.Refused r) after = noCalls (stops r)
 onRead place (read.Read k next) after = withCall (record { place = place; call = k }) (after next)
 
+-- "after call 4,096"
+abbrev pub mostCalls : ℕ
+mostCalls = 4096
+
 -- the calls from a place on, of which n may still come; then number 9, "the desk program has input left"
 unfoldable pub readCalls : ℕ → List ℕ → ℕ → Calls
 readCalls zero s at = cond (leb (length s) at) (noCalls ends) (noCalls (stops 9))
@@ -50,7 +54,7 @@ pub data Recording : Type 0 where
 
 abbrev pub onConfig : List ℕ → ReadConfig → Recording
 onConfig s (config.Refused r) = badConfig r
-onConfig s (config.Read c next) = recorded c (readCalls 4096 s next)
+onConfig s (config.Read c next) = recorded c (readCalls mostCalls s next)
 
 unfoldable pub recording : List ℕ → Recording
 recording s = onConfig s (readConfig s 0)

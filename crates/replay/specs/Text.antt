@@ -9,8 +9,8 @@ use Rattle.laws.specs.Config.{validate}
 use Rattle.laws.specs.declared.types.Setpoint.{Setpoint}
 use Rattle.laws.specs.declared.types.Setpoint.the-variants as Set
 use Rattle.guidance.specs.Plane.{fresh}
-use Rattle.guidance.specs.Calls as guidance
-use Rattle.guidance.specs.Calls.{Reply, perform}
+use Rattle.claims.specs.Calls as guidance
+use Rattle.claims.specs.Calls.{Reply, perform}
 use Rattle.guidance.specs.declared.plane.PlaneGuidance.{PlaneGuidance}
 use Rattle.guidance.specs.declared.plane.LateralLaw.{LateralLaw}
 use Rattle.guidance.specs.declared.plane.LateralLaw.the-variants as Lateral

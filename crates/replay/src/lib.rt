@@ -1,7 +1,7 @@
 // Replays a recording into a lent buffer, as the desk program prints it.
 pub mod turn;
 
-use crate::turn::perform;
+use crate::turn::call_line;
 use crate::turn::refused_line;
 use crate::turn::stopped_line;
 use fields::Written;
@@ -17,10 +17,21 @@ ghost use mathlib.Core.Path.{_≡_};
 ghost use mathlib.Core.Bool.{true};
 ghost use Prim.Native.Nat.{_≤_, _+_};
 ghost use lib.ListN.{length};
+ghost use Rattle.fields.specs.Bytes.{putAt};
 ghost use Rattle.fields.specs.Writing.{answerOf, bufferOf};
 ghost use Rattle.lines.specs.Line.{text};
+ghost use Rattle.replay.specs.Sizes.{textRoom};
 ghost use Rattle.replay.specs.Text.{recordingText};
-ghost use Rattle.replay.specs.Pass.{Prints, callsText};
+ghost use Rattle.replay.specs.code.Pass.{Prints, callsText};
+
+// "The desk program has input left after call 4,096".
+const MOST_CALLS: u32 = 4096;
+
+// No line has more bytes.
+const LINE_ROOM: usize = 80;
+
+// 4,096 calls' lines and one that says why the replay stopped: no text has more bytes.
+const TEXT_ROOM: usize = 327760;
 
 // Prints a line from a place on and answers the place after it, or only measures it: then the buffer is kept.
 fn print(out: &mut [u8], to: usize, write: bool, l: Line) -> usize
@@ -30,7 +41,7 @@ fn print(out: &mut [u8], to: usize, write: bool, l: Line) -> usize
     if write {
         return to + put_line(&mut out[to..], l);
     }
-    let mut scratch = [0u8; 80];
+    let mut scratch = [0u8; LINE_ROOM];
     to + put_line(&mut scratch, l)
 }
 
@@ -43,7 +54,7 @@ fn calls(s: &[u8], from: usize, fresh: PlaneGuidance, out: &mut [u8], write: boo
     let mut at = from;
     let mut to = 0;
     let mut n: u32 = 1;
-    while n <= 4096 {
+    while n <= MOST_CALLS {
         if s.len() <= at {
             return to;
         }
@@ -53,7 +64,7 @@ fn calls(s: &[u8], from: usize, fresh: PlaneGuidance, out: &mut [u8], write: boo
                 return print(out, to, write, stopped_line(n, r as u32));
             }
             ReadCall::Read { call, next } => {
-                let p = perform(n, g, call);
+                let p = call_line(n, g, call);
                 let line = p.line;
                 let after = p.guidance;
                 to = print(out, to, write, line);
@@ -87,17 +98,25 @@ fn pass(s: &[u8], out: &mut [u8], write: bool) -> usize
     }
 }
 
+// Prints the text of a recording into a buffer that has room for every text.
+pub fn print_text(s: &[u8], out: &mut [u8]) -> usize
+    requires { ⌜ textRoom ≤ length (now out) ⌝ }
+    ensures { λ r. ⌜ (r ≡ length (recordingText (now (s .entry)))) × (now (out .exit) ≡ putAt (now (out .entry)) 0 (recordingText (now (s .entry)))) ⌝ }
+{
+    pass(s, out, true)
+}
+
 // The text of a recording at the front of a buffer, and the place after it; number 8 where the buffer has too few bytes.
-// A buffer of 4,097 lines of 80 bytes has room for every text. For a smaller one the text is measured first.
+// For a buffer without room for every text the text is measured first.
 pub fn replay(s: &[u8], out: &mut [u8]) -> Written
     ensures { λ r. ⌜ (r ≡ answerOf (now (out .entry)) 0 (recordingText (now (s .entry)))) × (now (out .exit) ≡ bufferOf (now (out .entry)) 0 (recordingText (now (s .entry)))) ⌝ }
 {
-    if out.len() < 327760 {
+    if out.len() < TEXT_ROOM {
         let size = pass(s, out, false);
         if out.len() < size {
             return Written::Refused(8);
         }
         return Written::Next(pass(s, out, true));
     }
-    Written::Next(pass(s, out, true))
+    Written::Next(print_text(s, out))
 }

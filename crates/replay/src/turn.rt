@@ -12,9 +12,9 @@ use records::call::Call;
 ghost use mathlib.Core.Path.{_≡_};
 ghost use Rattle.replay.specs.Text as spec;
 ghost use Rattle.calls.specs.Calls.{asReply};
-ghost use Rattle.replay.specs.Performed.{performedOf};
+ghost use Rattle.replay.specs.code.Performed.{callLine};
 
-pub struct Performed {
+pub struct CallLine {
     pub line: Line,
     pub guidance: PlaneGuidance,
 }
@@ -161,13 +161,13 @@ fn reply_line(number: u32, reply: Reply) -> Line
 }
 
 // A call's line, and the guidance after it.
-pub fn perform(number: u32, g: PlaneGuidance, call: Call) -> Performed
-    ensures { λ r. ⌜ r ≡ performedOf number g call ⌝ }
+pub fn call_line(number: u32, g: PlaneGuidance, call: Call) -> CallLine
+    ensures { λ r. ⌜ r ≡ callLine number g call ⌝ }
 {
     let done = calls::perform(g, call);
     let guidance = done.guidance;
     let reply = done.reply;
-    Performed {
+    CallLine {
         line: reply_line(number, reply),
         guidance,
     }

@@ -76,6 +76,10 @@ def text(data, is_list):
     while at < len(data):
         tag = data[at] if is_list else 0
         start = at + 1 if is_list else at
+        if tag == 2:
+            lines.append("02")
+            at = start
+            continue
         if tag == 1:
             line, at = _record(data, start, 5, lambda bit: 4)
         else:

@@ -1,7 +1,10 @@
 -- `RootLaw` of `rootOf`: of all the values of binary32, its result is the one nearest to the root. Assumes nothing.
+-- 0x800000 is 2 ^ 23, 0x1000000 is 2 ^ 24, 0x400000000000 is 2 ^ 46.
 use mathlib.Core.Path.{_≡_, refl, sym, ap, _∙_, subst}
 use Prim.Native.Nat.{ℕ, zero, suc, _+_, _-_, _*_, _/_, _%_, _^_, _≤_, _<_}
-use native.Mathlib.Nat.{le-trans, le-of-eq, le-of-suc-le-suc, lt-of-lt-of-le, lt-of-le-of-lt, lt-of-not-le, not-le-of-lt, lt-irrefl, le-suc, le-antisymm, add-comm, eq-or-lt-of-le, zero-lt-suc, mul-one, mul-assoc, mul-comm, mul-right-comm, suc-mul, mul-pos, mul-le-mul, mul-le-mul-right, mul-lt-mul-of-pos-right, lt-of-mul-lt-mul-right, mul-div-cancel, zero-mul}
+use native.Mathlib.Nat.{le-trans, le-of-eq, le-of-suc-le-suc, lt-of-lt-of-le, lt-of-le-of-lt, lt-of-not-le, not-le-of-lt, lt-irrefl, le-suc}
+use native.Mathlib.Nat.{le-antisymm, add-comm, eq-or-lt-of-le, zero-lt-suc, mul-one, mul-assoc, mul-comm, mul-right-comm, suc-mul, mul-pos}
+use native.Mathlib.Nat.{mul-le-mul, mul-le-mul-right, mul-lt-mul-of-pos-right, lt-of-mul-lt-mul-right, mul-div-cancel, zero-mul}
 use native.Mathlib.Omega.{arith}
 use mathlib.Core.Bool.{Bool, true, false, not, _&&_, true≢false}
 use mathlib.Core.Logic.{_⊎_, inl, inr}
@@ -32,7 +35,9 @@ pub record Digits (n : ℕ) : Type 0 where
 place : (m : ℕ) (e : ℤ) → down e ≤ 2 ^ 149 → (j : ℕ) × (m * up e * 2 ^ 149 ≡ m * 2 ^ j * down e)
 place m (pos a) h = (a + 149, regroup m a 149 (a + 149) refl ∙ sym (mul-one (m * 2 ^ (a + 149))))
 place m (negsuc a) h =
-    let l : suc a ≤ 149 = le-of-suc-le-suc (lt-of-not-le (λ (g : 150 ≤ suc a). lt-irrefl (2 ^ 149) (lt-of-lt-of-le (pow-lt {i = 149} {j = 150} (omega arith)) (le-trans (pow-mono g) h)))) in
+    let l : suc a ≤ 149 =
+    le-of-suc-le-suc (lt-of-not-le (λ (g : 150 ≤ suc a). lt-irrefl (2 ^ 149)
+    (lt-of-lt-of-le (pow-lt {i = 149} {j = 150} (omega arith)) (le-trans (pow-mono g) h)))) in
     (149 - suc a, ap (λ (x : ℕ). x * 2 ^ 149) (mul-one m) ∙ sym (regroup m (149 - suc a) (suc a) 149 (back 149 (suc a) l)))
 
 whole : (m : ℕ) (e : ℤ) (n : ℕ) → m * up e * 2 ^ 149 ≡ n * down e → m * up e * 2 ^ 149 / down e ≡ n
@@ -71,8 +76,10 @@ module _ (s : Bool) (m : ℕ) (e : ℤ) (h : T (fits binary32 (fin s (suc m) e))
 digits-of : (y : Float) → T (fits binary32 y) → T (unsigned y) → Digits (inUnits y)
 digits-of nan h u = absurd u
 digits-of (inf s) h u = absurd u
-digits-of (fin s zero e) h u = record { z = 0; j = 0; is = whole 0 e 0 (ap (λ (x : ℕ). x * 2 ^ 149) (zero-mul (up e)) ∙ sym (zero-mul (down e))); small = pow-pos 24 }
-digits-of (fin s (suc m) e) h u = let p = place (suc m) e (e-le s m e h) in record { z = suc m; j = p .0; is = whole (suc m) e (suc m * 2 ^ p .0) (p .1); small = m-lt s m e h }
+digits-of (fin s zero e) h u =
+    record { z = 0; j = 0; is = whole 0 e 0 (ap (λ (x : ℕ). x * 2 ^ 149) (zero-mul (up e)) ∙ sym (zero-mul (down e))); small = pow-pos 24 }
+digits-of (fin s (suc m) e) h u =
+    let p = place (suc m) e (e-le s m e h) in record { z = suc m; j = p .0; is = whole (suc m) e (suc m * 2 ^ p .0) (p .1); small = m-lt s m e h }
 
 -- ---- the number under the root, as m * 2 ^ (2 * h + 2) with m from 2 ^ 46 up to 2 ^ 48, and the whole number v that is nearest to the root of m
 pub record Parts (n : ℕ) : Type 0 where
@@ -81,30 +88,33 @@ pub record Parts (n : ℕ) : Type 0 where
   pub v : ℕ
   pub is : n ≡ m * 2 ^ (2 * h + 2)
   pub h-le : h ≤ 200
-  pub m-ge : 70368744177664 ≤ m
-  pub m-le : m ≤ 281474959933440
-  pub v-ge : 8388608 ≤ v
-  pub v-lt : v < 16777216
+  pub m-ge : 0x400000000000 ≤ m
+  pub m-le : m ≤ 0xffffff000000
+  pub v-ge : 0x800000 ≤ v
+  pub v-lt : v < 0x1000000
   pub near : NearestWhole m v
 
 -- the whole number nearest to the root of m: its whole part q, or q + 1
-nearest-whole : (m : ℕ) → 70368744177664 ≤ m → (v : ℕ) × NearestWhole m v
-nearest-whole m lo = go (floorRoot m) (floor-is m) (leb (m - floorRoot m * floorRoot m) (floorRoot m)) (leb→le (m - floorRoot m * floorRoot m) (floorRoot m)) (nleb→lt (m - floorRoot m * floorRoot m) (floorRoot m))
+nearest-whole : (m : ℕ) → 0x400000000000 ≤ m → (v : ℕ) × NearestWhole m v
+nearest-whole m lo =
+    go (floorRoot m) (floor-is m) (leb (m - floorRoot m * floorRoot m) (floorRoot m)) (leb→le (m - floorRoot m * floorRoot m) (floorRoot m))
+    (nleb→lt (m - floorRoot m * floorRoot m) (floorRoot m))
   where
     positive : (q : ℕ) → Floor m q → 0 < q
     positive q f = lt-of-not-le (λ (g : q ≤ 0). not-le-of-lt (f .1) (omega (arith, square-suc q, mul-le-mul g g)))
 
     go : (q : ℕ) → Floor m q → (b : Bool) → (T b → m - q * q ≤ q) → (T (not b) → q < m - q * q) → (v : ℕ) × NearestWhole m v
     go q f true d u = let l = d tt in let p = positive q f in let a : q * q ≤ m = f .0 in (q, record { above-lower = omega arith; below-upper = omega arith })
-    go q f false d u = let l = u tt in let a : m < suc q * suc q = f .1 in (suc q, record { above-lower = omega (arith, square-suc q); below-upper = omega arith })
+    go q f false d u =
+        let l = u tt in let a : m < suc q * suc q = f .1 in (suc q, record { above-lower = omega (arith, square-suc q); below-upper = omega arith })
 
-rounded-root : (n m h : ℕ) → n ≡ m * 2 ^ (2 * h + 2) → h ≤ 200 → 70368744177664 ≤ m → m ≤ 281474959933440 → Parts n
+rounded-root : (n m h : ℕ) → n ≡ m * 2 ^ (2 * h + 2) → h ≤ 200 → 0x400000000000 ≤ m → m ≤ 0xffffff000000 → Parts n
 rounded-root n m h e H lo hi =
     let r = nearest-whole m lo in
     record { m = m; h = h; v = r .0; is = e; h-le = H; m-ge = lo; m-le = hi; v-ge = least m (r .0) lo (r .1); v-lt = greatest m (r .0) hi (r .1); near = r .1 }
 
 -- m has 24 digits
-normalised : (n m g : ℕ) → n ≡ m * 2 ^ g → 8388608 ≤ m → m < 16777216 → 128 ≤ g → g ≤ 410 → Parts n
+normalised : (n m g : ℕ) → n ≡ m * 2 ^ g → 0x800000 ≤ m → m < 0x1000000 → 128 ≤ g → g ≤ 410 → Parts n
 normalised n m g e lo hi a b =
     let w = widened m g lo hi in
     rounded-root n (m * 2 ^ (24 - g % 2)) ((g + 1) / 2 - 13) (e ∙ sym (half-power m g a)) (omega arith) (w .low) (w .high)
@@ -123,7 +133,8 @@ parts-of z j Z small top =
     let g = j + 151 - k in
     let same : z * 2 ^ j * 2 ^ 151 ≡ m * 2 ^ g = regroup z j 151 (j + 151) refl ∙ sym (regroup z k g (j + 151) (omega arith)) in
     let cap : 2 ^ (23 + g) < 2 ^ 428 =
-    lt-of-le-of-lt (le-of-eq (pow-add 2 23 g)) (lt-of-le-of-lt (mul-le-mul-right (2 ^ g) lo) (lt-of-le-of-lt (le-of-eq (sym same)) (mul-lt-mul-of-pos-right top (pow-pos 151)))) in
+    lt-of-le-of-lt (le-of-eq (pow-add 2 23 g))
+    (lt-of-le-of-lt (mul-le-mul-right (2 ^ g) lo) (lt-of-le-of-lt (le-of-eq (sym same)) (mul-lt-mul-of-pos-right top (pow-pos 151)))) in
     let r : 23 + g < 428 = pow-lt-back (23 + g) 428 cap in
     normalised (z * 2 ^ j * 2 ^ 151) m g same lo hi (omega arith) (omega arith)
 
@@ -136,7 +147,7 @@ module _ (n y : ℕ) (p : Parts n) (d : Digits y) where
   multiple : p .h ≤ d .j → y ≡ d .z * 2 ^ (d .j - p .h) * 2 ^ p .h
   multiple l = d .is ∙ sym (regroup (d .z) (d .j - p .h) (p .h) (d .j) (back (d .j) (p .h) l))
 
-  low : d .j < p .h → y < 8388608 * 2 ^ p .h
+  low : d .j < p .h → y < 0x800000 * 2 ^ p .h
   low l =
       lt-of-le-of-lt (le-of-eq (d .is))
       (lt-of-lt-of-le (mul-lt-mul-of-pos-right (d .small) (pow-pos (d .j)))
@@ -159,21 +170,26 @@ module _ (n y : ℕ) (p : Parts n) (d : Digits y) where
   next : p .v * 2 ^ p .h < y → p .v * 2 ^ p .h + 2 ^ p .h ≤ y
   next h =
       elim cases [
-        | inl l ↦ subst (λ (x : ℕ). p .v * 2 ^ p .h + 2 ^ p .h ≤ x) (sym (multiple l)) (apart (p .v) (d .z * 2 ^ (d .j - p .h)) (subst (λ (x : ℕ). p .v * 2 ^ p .h < x) (multiple l) h))
+        | inl l ↦
+            subst (λ (x : ℕ). p .v * 2 ^ p .h + 2 ^ p .h ≤ x) (sym (multiple l))
+            (apart (p .v) (d .z * 2 ^ (d .j - p .h)) (subst (λ (x : ℕ). p .v * 2 ^ p .h < x) (multiple l) h))
         | inr l ↦ absurd (not-le-of-lt h (omega (arith, low l, mul-le-mul-right (2 ^ p .h) (p .v-ge))))
       ]
 
   -- below r: at least 2 ^ h below it, unless v is 2 ^ 23
-  last : 8388608 < p .v → y < p .v * 2 ^ p .h → y + 2 ^ p .h ≤ p .v * 2 ^ p .h
+  last : 0x800000 < p .v → y < p .v * 2 ^ p .h → y + 2 ^ p .h ≤ p .v * 2 ^ p .h
   last g h =
       elim cases [
-        | inl l ↦ subst (λ (x : ℕ). x + 2 ^ p .h ≤ p .v * 2 ^ p .h) (sym (multiple l)) (apart (d .z * 2 ^ (d .j - p .h)) (p .v) (subst (λ (x : ℕ). x < p .v * 2 ^ p .h) (multiple l) h))
-        | inr l ↦ omega (arith, low l, mul-le-mul-right (2 ^ p .h) g, suc-mul 8388608 (2 ^ p .h))
+        | inl l ↦
+            subst (λ (x : ℕ). x + 2 ^ p .h ≤ p .v * 2 ^ p .h) (sym (multiple l))
+            (apart (d .z * 2 ^ (d .j - p .h)) (p .v) (subst (λ (x : ℕ). x < p .v * 2 ^ p .h) (multiple l) h))
+        | inr l ↦ omega (arith, low l, mul-le-mul-right (2 ^ p .h) g, suc-mul 0x800000 (2 ^ p .h))
       ]
 
   pub above-r : p .v * 2 ^ p .h < y → n < (y + p .v * 2 ^ p .h) * (y + p .v * 2 ^ p .h)
   above-r h =
-      let e : suc (2 * p .v) * 2 ^ p .h ≡ 2 * (p .v * 2 ^ p .h) + 2 ^ p .h = suc-mul (2 * p .v) (2 ^ p .h) ∙ ap (λ (x : ℕ). x + 2 ^ p .h) (mul-assoc 2 (p .v) (2 ^ p .h)) in
+      let e : suc (2 * p .v) * 2 ^ p .h ≡ 2 * (p .v * 2 ^ p .h) + 2 ^ p .h =
+      suc-mul (2 * p .v) (2 ^ p .h) ∙ ap (λ (x : ℕ). x + 2 ^ p .h) (mul-assoc 2 (p .v) (2 ^ p .h)) in
       let l : suc (2 * p .v) * 2 ^ p .h ≤ y + p .v * 2 ^ p .h = omega (arith, next h) in
       lt-of-le-of-lt (le-of-eq (p .is)) (lt-of-lt-of-le (root-before (p .m) (p .h) (p .v) (p .near)) (mul-le-mul l l))
 
@@ -181,12 +197,13 @@ module _ (n y : ℕ) (p : Parts n) (d : Digits y) where
   below-r h =
       elim (eq-or-lt-of-le (p .v-ge)) [
         | inl e ↦
-            let s : 8388608 * 2 ^ p .h ≡ p .v * 2 ^ p .h = ap (λ (x : ℕ). x * 2 ^ p .h) e in
-            let l : y + p .v * 2 ^ p .h < 16777216 * 2 ^ p .h = omega arith in
-            lt-of-lt-of-le (square-mono (y + p .v * 2 ^ p .h) (16777216 * 2 ^ p .h) l) (le-trans (root-least (p .m) (p .h) (p .m-ge)) (le-of-eq (sym (p .is))))
+            let s : 0x800000 * 2 ^ p .h ≡ p .v * 2 ^ p .h = ap (λ (x : ℕ). x * 2 ^ p .h) e in
+            let l : y + p .v * 2 ^ p .h < 0x1000000 * 2 ^ p .h = omega arith in
+            lt-of-lt-of-le (square-mono (y + p .v * 2 ^ p .h) (0x1000000 * 2 ^ p .h) l) (le-trans (root-least (p .m) (p .h) (p .m-ge)) (le-of-eq (sym (p .is))))
         | inr g ↦
             let L : suc (2 * p .v - 1) ≡ 2 * p .v = omega arith in
-            let s : (2 * p .v - 1) * 2 ^ p .h + 2 ^ p .h ≡ 2 * (p .v * 2 ^ p .h) = sym (suc-mul (2 * p .v - 1) (2 ^ p .h)) ∙ ap (λ (x : ℕ). x * 2 ^ p .h) L ∙ mul-assoc 2 (p .v) (2 ^ p .h) in
+            let s : (2 * p .v - 1) * 2 ^ p .h + 2 ^ p .h ≡ 2 * (p .v * 2 ^ p .h) =
+            sym (suc-mul (2 * p .v - 1) (2 ^ p .h)) ∙ ap (λ (x : ℕ). x * 2 ^ p .h) L ∙ mul-assoc 2 (p .v) (2 ^ p .h) in
             let l : y + p .v * 2 ^ p .h ≤ (2 * p .v - 1) * 2 ^ p .h = omega (arith, last g h) in
             lt-of-le-of-lt (mul-le-mul l l) (lt-of-lt-of-le (root-after (p .m) (p .h) (p .v) (2 * p .v - 1) L (p .near)) (le-of-eq (sym (p .is))))
       ]
@@ -201,13 +218,16 @@ has-positive : (r : Float) (a : ℕ) → HasValue r false a (2 ^ 149) → 0 < a 
 has-positive nan a h A = absurd h
 has-positive (inf s) a h A = absurd h
 has-positive (fin true m e) a h A = absurd (true≢false (h .0))
-has-positive (fin false zero e) a h A = absurd (lt-irrefl 0 (subst (λ (x : ℕ). 0 < x) (sym (h .1) ∙ ap (λ (x : ℕ). x * 2 ^ 149) (zero-mul (up e)) ∙ zero-mul (2 ^ 149)) (mul-pos A (down-pos e))))
+has-positive (fin false zero e) a h A =
+    absurd (lt-irrefl 0 (subst (λ (x : ℕ). 0 < x) (sym (h .1) ∙ ap (λ (x : ℕ). x * 2 ^ 149) (zero-mul (up e)) ∙ zero-mul (2 ^ 149))
+    (mul-pos A (down-pos e))))
 has-positive (fin false (suc m) e) a h A = lt→ltb 0 (suc m) (zero-lt-suc m)
 
 four : (n : ℕ) → 4 * n * 2 ^ 149 ≡ n * 2 ^ 151
 four n = ap (λ (x : ℕ). x * 2 ^ 149) (mul-comm 4 n) ∙ mul-assoc n 4 (2 ^ 149)
 
-of-parts : (x r : Float) (n : ℕ) → inUnits x ≡ n → T (fits binary32 r) → (p : Parts (n * 2 ^ 151)) → HasValue r false (p .v * 2 ^ p .h) (2 ^ 149) → NearestToRoot x r
+of-parts : (x r : Float) (n : ℕ) → inUnits x ≡ n → T (fits binary32 r) → (p : Parts (n * 2 ^ 151)) → HasValue r false (p .v * 2 ^ p .h) (2 ^ 149) →
+    NearestToRoot x r
 of-parts x r n e f p h =
     let R = p .v * 2 ^ p .h in
     let u : inUnits r ≡ R = has-units r R h in
@@ -232,7 +252,8 @@ finite-root m e h =
     let n = suc m * 2 ^ d .0 in
     let cap : n < 2 ^ 277 =
     lt-of-mul-lt-mul-right (down e)
-    (lt-of-le-of-lt (le-of-eq (sym (d .1))) (lt-of-lt-of-le (mul-lt-mul-of-pos-right (top-lt false m e h) (pow-pos 149)) (le-of-eq (mul-right-comm (2 ^ 128) (down e) (2 ^ 149))))) in
+    (lt-of-le-of-lt (le-of-eq (sym (d .1))) (lt-of-lt-of-le (mul-lt-mul-of-pos-right (top-lt false m e h) (pow-pos 149))
+    (le-of-eq (mul-right-comm (2 ^ 128) (down e) (2 ^ 149))))) in
     let p = parts-of (suc m) (d .0) (zero-lt-suc m) (m-lt false m e h) cap in
     let r : rootOf binary32 x ≡ nearestRoot binary32 (n * 2 ^ 151) = root-of-value x n (refl, d .1) (mul-pos (zero-lt-suc m) (pow-pos (d .0))) in
     subst (λ (y : Float). NearestToRoot x y) (sym r)

@@ -1,7 +1,10 @@
 -- What `nearestRoot` makes of n = m * 4 ^ (h + 1): v * 2 ^ h smallest values, where v is the whole number nearest to the root of m. Assumes nothing.
+-- 0x1000000 is 2 ^ 24, 0x2000000 is 2 ^ 25, 0x400000000000 is 2 ^ 46, 0x1000000000000 is 2 ^ 48.
 use mathlib.Core.Path.{_≡_, refl, sym, ap, _∙_, subst}
 use Prim.Native.Nat.{ℕ, suc, _+_, _-_, _*_, _/_, _%_, _^_, _≤_, _<_, compare, Ordering, Ordering·lt, Ordering·eq, Ordering·gt}
-use native.Mathlib.Nat.{le-antisymm, le-of-suc-le-suc, le-trans, le-of-eq, lt-of-lt-of-le, lt-of-le-of-lt, lt-of-not-le, not-le-of-lt, mul-assoc, mul-comm, mul-left-comm, mul-mul-mul-comm, suc-mul, two-mul, mul-le-mul-right, mul-lt-mul-of-pos-right, mul-pos, div-add-mod', mod-lt, le-div-iff-mul-le, div-lt-iff-lt-mul, zero-lt-suc}
+use native.Mathlib.Nat.{le-antisymm, le-of-suc-le-suc, le-trans, le-of-eq, lt-of-lt-of-le, lt-of-le-of-lt, lt-of-not-le, not-le-of-lt, mul-assoc}
+use native.Mathlib.Nat.{mul-comm, mul-left-comm, mul-mul-mul-comm, suc-mul, two-mul, mul-le-mul-right, mul-lt-mul-of-pos-right, mul-pos, div-add-mod'}
+use native.Mathlib.Nat.{mod-lt, le-div-iff-mul-le, div-lt-iff-lt-mul, zero-lt-suc}
 use native.Mathlib.Omega.{arith}
 use mathlib.Core.Bool.{Bool, true, false, not}
 use lib.Dec.{T, isLe, isEq, eqb, leb→le, nleb→lt, eqb→eq, eqb-refl, lit<, lit≤}
@@ -44,7 +47,8 @@ module _ (a b v : ℕ) (B : 0 < b) (lo : v * b + v * b < a + a + b) (hi : a + a 
     where
       above : w < v
       above = lt-of-not-le (λ (g : v ≤ w). not-le-of-lt hi (omega (arith, mul-le-mul-right b g)))
-  by w r Ordering·gt e l c = le-antisymm above (le-of-suc-le-suc (lt-of-not-le (λ (g : suc (suc w) ≤ v). not-le-of-lt lo (omega (arith, more (suc w) v g, suc-mul w b)))))
+  by w r Ordering·gt e l c =
+      le-antisymm above (le-of-suc-le-suc (lt-of-not-le (λ (g : suc (suc w) ≤ v). not-le-of-lt lo (omega (arith, more (suc w) v g, suc-mul w b)))))
     where
       above : w < v
       above = lt-of-not-le (λ (g : v ≤ w). not-le-of-lt hi (omega (arith, mul-le-mul-right b g)))
@@ -68,18 +72,21 @@ quarter-lt : (p w u : ℕ) → 0 < u → w < 4 * p → w * u < p * (4 * u)
 quarter-lt p w u U h = lt-of-lt-of-le (mul-lt-mul-of-pos-right h U) (le-of-eq (mul-assoc 4 p u ∙ mul-left-comm 4 p u))
 
 cancel : (w p u : ℕ) → 0 < u → 0 < p → closest (w * u) (4 * u * p) ≡ closest w (4 * p)
-cancel w p u U P = closest-same (w * u) (4 * u * p) w (4 * p) (mul-pos (mul-pos (zero-lt-suc 3) U) P) (mul-pos (zero-lt-suc 3) P) (simp (mul-assoc, mul-comm, mul-left-comm))
+cancel w p u U P =
+    closest-same (w * u) (4 * u * p) w (4 * p) (mul-pos (mul-pos (zero-lt-suc 3) U) P) (mul-pos (zero-lt-suc 3) P)
+    (simp (mul-assoc, mul-comm, mul-left-comm))
 
 -- the root of n lies within a half of v * 2 ^ h smallest values, that is, of 2 * v * 2 ^ h of n's units; l is 2 * v - 1
-module _ (n h v l : ℕ) (L : suc l ≡ 2 * v) (H : h ≤ 200) (small : v < 16777216)
-    (lo : 16777216 * 2 ^ h * (16777216 * 2 ^ h) ≤ n) (hi : n < 33554432 * 2 ^ h * (33554432 * 2 ^ h))
+module _ (n h v l : ℕ) (L : suc l ≡ 2 * v) (H : h ≤ 200) (small : v < 0x1000000)
+    (lo : 0x1000000 * 2 ^ h * (0x1000000 * 2 ^ h) ≤ n) (hi : n < 0x2000000 * 2 ^ h * (0x2000000 * 2 ^ h))
     (after : l * 2 ^ h * (l * 2 ^ h) < n) (before : n < suc (2 * v) * 2 ^ h * (suc (2 * v) * 2 ^ h)) where
   w-size : size (sticky n * 2 ^ 149 / 2 ^ 151) ≡ suc (23 + h)
   w-size =
       size-exact (23 + h) (sticky n * 2 ^ 149 / 2 ^ 151)
-      (le-div-iff-mul-le (pow-pos 151) .1 (quarter-le (2 ^ (23 + h)) (sticky n) (2 ^ 149) (omega (arith, pow-add 2 23 h, sticky-ge n (16777216 * 2 ^ h) lo))))
+      (le-div-iff-mul-le (pow-pos 151) .1 (quarter-le (2 ^ (23 + h)) (sticky n) (2 ^ 149) (omega (arith, pow-add 2 23 h, sticky-ge n (0x1000000 * 2 ^ h) lo))))
       (div-lt-iff-lt-mul (pow-pos 151) .1
-      (quarter-lt (2 ^ suc (23 + h)) (sticky n) (2 ^ 149) (pow-pos 149) (omega (arith, ap (λ (x : ℕ). 2 ^ x) same, pow-add 2 24 h, sticky-below n (33554432 * 2 ^ h) hi))))
+      (quarter-lt (2 ^ suc (23 + h)) (sticky n) (2 ^ 149) (pow-pos 149)
+      (omega (arith, ap (λ (x : ℕ). 2 ^ x) same, pow-add 2 24 h, sticky-below n (0x2000000 * 2 ^ h) hi))))
     where
       same : suc (23 + h) ≡ 24 + h
       same = omega arith
@@ -123,13 +130,17 @@ quadruple m h =
 
 module _ (m h : ℕ) where
   square-lt : (t : ℕ) → t * t < 4 * m → t * 2 ^ h * (t * 2 ^ h) < m * 2 ^ (2 * h + 2)
-  square-lt t h' = lt-of-le-of-lt (le-of-eq (mul-mul-mul-comm t (2 ^ h) t (2 ^ h))) (lt-of-lt-of-le (mul-lt-mul-of-pos-right h' (mul-pos (pow-pos h) (pow-pos h))) (le-of-eq (sym (quadruple m h))))
+  square-lt t h' =
+      lt-of-le-of-lt (le-of-eq (mul-mul-mul-comm t (2 ^ h) t (2 ^ h)))
+      (lt-of-lt-of-le (mul-lt-mul-of-pos-right h' (mul-pos (pow-pos h) (pow-pos h))) (le-of-eq (sym (quadruple m h))))
 
   square-le : (t : ℕ) → t * t ≤ 4 * m → t * 2 ^ h * (t * 2 ^ h) ≤ m * 2 ^ (2 * h + 2)
   square-le t h' = le-trans (le-of-eq (mul-mul-mul-comm t (2 ^ h) t (2 ^ h))) (le-trans (mul-le-mul-right (2 ^ h * 2 ^ h) h') (le-of-eq (sym (quadruple m h))))
 
   square-gt : (t : ℕ) → 4 * m < t * t → m * 2 ^ (2 * h + 2) < t * 2 ^ h * (t * 2 ^ h)
-  square-gt t h' = lt-of-le-of-lt (le-of-eq (quadruple m h)) (lt-of-lt-of-le (mul-lt-mul-of-pos-right h' (mul-pos (pow-pos h) (pow-pos h))) (le-of-eq (sym (mul-mul-mul-comm t (2 ^ h) t (2 ^ h)))))
+  square-gt t h' =
+      lt-of-le-of-lt (le-of-eq (quadruple m h))
+      (lt-of-lt-of-le (mul-lt-mul-of-pos-right h' (mul-pos (pow-pos h) (pow-pos h))) (le-of-eq (sym (mul-mul-mul-comm t (2 ^ h) t (2 ^ h)))))
 
 -- so the root of n = m * 2 ^ (2 * h + 2) lies between (2 * v - 1) * 2 ^ h and (2 * v + 1) * 2 ^ h
 pub root-after : (m h v l : ℕ) → suc l ≡ 2 * v → NearestWhole m v → l * 2 ^ h * (l * 2 ^ h) < m * 2 ^ (2 * h + 2)
@@ -144,10 +155,12 @@ root-before m h v near =
     let b : m ≤ v * v + v = near .below-upper in
     square-gt m h (suc (2 * v)) (omega arith)
 
-pub root-least : (m h : ℕ) → 70368744177664 ≤ m → 16777216 * 2 ^ h * (16777216 * 2 ^ h) ≤ m * 2 ^ (2 * h + 2)
-root-least m h lo = square-le m h 16777216 (omega arith)
+pub root-least : (m h : ℕ) → 0x400000000000 ≤ m → 0x1000000 * 2 ^ h * (0x1000000 * 2 ^ h) ≤ m * 2 ^ (2 * h + 2)
+root-least m h lo = square-le m h 0x1000000 (omega arith)
 
-pub value : (m h v : ℕ) → h ≤ 200 → 0 < v → v < 16777216 → 70368744177664 ≤ m → m < 281474976710656 → NearestWhole m v → HasValue (nearestRoot binary32 (m * 2 ^ (2 * h + 2))) false (v * 2 ^ h) (2 ^ 149)
+pub value : (m h v : ℕ) → h ≤ 200 → 0 < v → v < 0x1000000 → 0x400000000000 ≤ m → m < 0x1000000000000 → NearestWhole m v →
+    HasValue (nearestRoot binary32 (m * 2 ^ (2 * h + 2))) false (v * 2 ^ h) (2 ^ 149)
 value m h v H pos small lo hi near =
     let L : suc (2 * v - 1) ≡ 2 * v = omega arith in
-    rounded (m * 2 ^ (2 * h + 2)) h v (2 * v - 1) L H small (root-least m h lo) (square-gt m h 33554432 (omega arith)) (root-after m h v (2 * v - 1) L near) (root-before m h v near)
+    rounded (m * 2 ^ (2 * h + 2)) h v (2 * v - 1) L H small (root-least m h lo) (square-gt m h 0x2000000 (omega arith))
+    (root-after m h v (2 * v - 1) L near) (root-before m h v near)

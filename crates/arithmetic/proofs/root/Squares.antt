@@ -1,7 +1,8 @@
 -- `floorRoot n` is the largest number whose square is at most n (`floor-is`). Facts about squares that need no floats. Assumes nothing.
 use mathlib.Core.Path.{_≡_, refl, sym, ap, _∙_, subst}
 use Prim.Native.Nat.{ℕ, zero, suc, _+_, _*_, _/_, _^_, _≤_, _<_, zero-le}
-use native.Mathlib.Nat.{le-trans, le-of-eq, lt-of-lt-of-le, lt-of-not-le, not-le-of-lt, le-of-suc-le-suc, suc-mul, mul-suc, mul-comm, mul-le-mul, mul-mul-mul-comm, pow-suc, div-lt-iff-lt-mul, zero-lt-suc}
+use native.Mathlib.Nat.{le-trans, le-of-eq, lt-of-lt-of-le, lt-of-not-le, not-le-of-lt, le-of-suc-le-suc, suc-mul, mul-suc, mul-comm, mul-le-mul}
+use native.Mathlib.Nat.{mul-mul-mul-comm, pow-suc, div-lt-iff-lt-mul, zero-lt-suc}
 use native.Mathlib.Omega.{arith}
 use mathlib.Core.Bool.{Bool, true, false, not, cond}
 use lib.Dec.{T, leb, eqb, leb→le, nleb→lt, eqb→eq, lit≤}
@@ -54,7 +55,8 @@ step n s h = go (leb (suc (2 * s) * suc (2 * s)) n) (leb→le (suc (2 * s) * suc
 floorRootBy-is : (k n : ℕ) → n < 4 ^ k → Floor n (floorRootBy k n)
 unfolding floorRootBy
 floorRootBy-is zero n h = (zero-le, h)
-floorRootBy-is (suc k) n h = step n (floorRootBy k (n / 4)) (floorRootBy-is k (n / 4) (div-lt-iff-lt-mul (zero-lt-suc 3) .1 (subst (λ (x : ℕ). n < x) (pow-suc 4 k) h)))
+floorRootBy-is (suc k) n h =
+    step n (floorRootBy k (n / 4)) (floorRootBy-is k (n / 4) (div-lt-iff-lt-mul (zero-lt-suc 3) .1 (subst (λ (x : ℕ). n < x) (pow-suc 4 k) h)))
 
 two-four : (k : ℕ) → 2 ^ k ≤ 4 ^ k
 two-four zero = lit≤ tt

@@ -1,7 +1,9 @@
 -- The steps of `near_root`, `of_parts` and `root` on plain numbers. Assumes nothing.
+-- 0x800000 is 2 ^ 23, 0x1000000 is 2 ^ 24, 0x80000000 is 2 ^ 31, 0x100000000 is 2 ^ 32, 0x400000000000 is 2 ^ 46, 0x7f800000 is the infinity's pattern.
 use mathlib.Core.Path.{_≡_, refl, sym, ap, _∙_, subst}
 use Prim.Native.Nat.{ℕ, zero, suc, _+_, _-_, _*_, _/_, _%_, _^_, _≤_, _<_}
-use native.Mathlib.Nat.{le-trans, le-of-eq, le-of-suc-le-suc, lt-of-lt-of-le, lt-of-not-le, not-le-of-lt, lt-irrefl, mul-le-mul, mul-le-mul-right, mul-lt-mul-of-pos-right, mul-assoc, mul-right-comm, mul-pos, zero-mul, mod-eq-of-lt, mul-div-cancel}
+use native.Mathlib.Nat.{le-trans, le-of-eq, le-of-suc-le-suc, lt-of-lt-of-le, lt-of-not-le, not-le-of-lt, lt-irrefl, mul-le-mul, mul-le-mul-right}
+use native.Mathlib.Nat.{mul-lt-mul-of-pos-right, mul-assoc, mul-right-comm, mul-pos, zero-mul, mod-eq-of-lt, mul-div-cancel}
 use native.Mathlib.Omega.{arith}
 use mathlib.Core.Bool.{Bool, true, false, not, cond, true≢false, false≢true}
 use lib.Dec.{T, leb, ltb, eqb, ltb→lt, leb→le, nleb→lt, not-T, eqb·suc-zero}
@@ -19,33 +21,34 @@ use Rattle.arithmetic.proofs.root.Rounded.{nearest-is, value}
 use Rattle.arithmetic.proofs.root.Patterns.{same-value, ofBits-is, normal-value, subnormal-value}
 
 -- ---- `near_root`
-pub least : (m v : ℕ) → 70368744177664 ≤ m → NearestWhole m v → 8388608 ≤ v
+pub least : (m v : ℕ) → 0x400000000000 ≤ m → NearestWhole m v → 0x800000 ≤ v
 least m v lo near =
     let b : m ≤ v * v + v = near .below-upper in
-    le-of-suc-le-suc (lt-of-not-le (λ (g : suc v ≤ 8388608). not-le-of-lt lo (let k : v ≤ 8388607 = omega arith in omega (arith, mul-le-mul k k))))
+    le-of-suc-le-suc (lt-of-not-le (λ (g : suc v ≤ 0x800000). not-le-of-lt lo (let k : v ≤ 0x7fffff = omega arith in omega (arith, mul-le-mul k k))))
 
-pub greatest : (m v : ℕ) → m ≤ 281474959933440 → NearestWhole m v → v < 16777216
+pub greatest : (m v : ℕ) → m ≤ 0xffffff000000 → NearestWhole m v → v < 0x1000000
 greatest m v hi near =
     let a : v * v < m + v = near .above-lower in
-    lt-of-not-le (λ (g : 16777216 ≤ v). not-le-of-lt a (omega (arith, mul-le-mul-right v g)))
+    lt-of-not-le (λ (g : 0x1000000 ≤ v). not-le-of-lt a (omega (arith, mul-le-mul-right v g)))
 
 pub nearest-fits : (n : ℕ) → T (fits binary32 (nearestRoot binary32 n))
 nearest-fits n = subst (λ (x : Float). T (fits binary32 x)) (sym (nearest-is n)) (round-fits binary32 false (sticky n) (2 ^ 151))
 
-pub built : (m h v : ℕ) → h ≤ 200 → 70368744177664 ≤ m → m ≤ 281474959933440 → NearestWhole m v → ofBits binary32 (h * 8388608 + v) ≡ nearestRoot binary32 (m * 2 ^ (2 * h + 2))
+pub built : (m h v : ℕ) → h ≤ 200 → 0x400000000000 ≤ m → m ≤ 0xffffff000000 → NearestWhole m v →
+    ofBits binary32 (h * 0x800000 + v) ≡ nearestRoot binary32 (m * 2 ^ (2 * h + 2))
 built m h v H lo hi near =
     let a = least m v lo near in
     let b = greatest m v hi near in
-    same-value binary32 false (ofBits binary32 (h * 8388608 + v)) (nearestRoot binary32 (m * 2 ^ (2 * h + 2))) (v * 2 ^ h)
-    (ofBits-fits binary32 (h * 8388608 + v)) (nearest-fits (m * 2 ^ (2 * h + 2)))
-    (normal-value (h * 8388608 + v) v h (omega arith) (omega arith) (omega arith))
+    same-value binary32 false (ofBits binary32 (h * 0x800000 + v)) (nearestRoot binary32 (m * 2 ^ (2 * h + 2))) (v * 2 ^ h)
+    (ofBits-fits binary32 (h * 0x800000 + v)) (nearest-fits (m * 2 ^ (2 * h + 2)))
+    (normal-value (h * 0x800000 + v) v h (omega arith) (omega arith) (omega arith))
     (value m h v H (omega arith) b lo (omega arith) near)
 
 -- a pattern below the infinity's is no NaN's
-pub no-nan : (b : ℕ) → b < 2139095040 → T (not (nanBits binary32 b))
+pub no-nan : (b : ℕ) → b < 0x7f800000 → T (not (nanBits binary32 b))
 no-nan b h =
     subst (λ (t : Bool). T (not t)) (sym (nanBits-above binary32 b))
-    (not-T (ltb 2139095040 (b % 2147483648)) (λ (t : T (ltb 2139095040 (b % 2147483648))). not-le-of-lt (ltb→lt 2139095040 (b % 2147483648) t) (omega arith)))
+    (not-T (ltb 0x7f800000 (b % 0x80000000)) (λ (t : T (ltb 0x7f800000 (b % 0x80000000))). not-le-of-lt (ltb→lt 0x7f800000 (b % 0x80000000) t) (omega arith)))
 
 -- ---- `of_parts`
 pub regroup : (m k e g : ℕ) → k + e ≡ g → m * 2 ^ k * 2 ^ e ≡ m * 2 ^ g
@@ -60,10 +63,10 @@ even-or-odd g = go (leb 1 (g % 2)) (leb→le 1 (g % 2)) (nleb→lt 1 (g % 2))
 
 -- m has 24 digits, and is moved up by 24 places, or by 23, so that an even power of two is left
 pub record Widened (m n : ℕ) : Type 0 where
-  pub low : 70368744177664 ≤ n
-  pub high : n ≤ 281474959933440
+  pub low : 0x400000000000 ≤ n
+  pub high : n ≤ 0xffffff000000
 
-pub widened : (m g : ℕ) → 8388608 ≤ m → m < 16777216 → Widened m (m * 2 ^ (24 - g % 2))
+pub widened : (m g : ℕ) → 0x800000 ≤ m → m < 0x1000000 → Widened m (m * 2 ^ (24 - g % 2))
 widened m g lo hi =
     elim (even-or-odd g) [
       | inl e ↦ subst (λ (x : ℕ). Widened m (m * 2 ^ (24 - x))) (sym e) (record { low = omega arith; high = omega arith })
@@ -90,21 +93,22 @@ root-of-value (fin true (suc m) e) n h N = absurd (true≢false (h .0))
 root-of-value (fin false (suc m) e) n h N = ap (nearestRoot binary32) (quotient (suc m * up e) n (down e) (2 ^ 149) (2 ^ 151) (down-pos e) (h .1))
 
 -- a normal value
-pub normal-root : (b : ℕ) → 8388608 ≤ b → b < 2139095040 → rootOf binary32 (ofBits binary32 b) ≡ nearestRoot binary32 ((b % 8388608 + 8388608) * 2 ^ (b / 8388608 + 150))
+pub normal-root : (b : ℕ) → 0x800000 ≤ b → b < 0x7f800000 →
+    rootOf binary32 (ofBits binary32 b) ≡ nearestRoot binary32 ((b % 0x800000 + 0x800000) * 2 ^ (b / 0x800000 + 150))
 normal-root b lo hi =
-    let x = b / 8388608 - 1 in
-    let m = b % 8388608 + 8388608 in
+    let x = b / 0x800000 - 1 in
+    let m = b % 0x800000 + 0x800000 in
     root-of-value (ofBits binary32 b) (m * 2 ^ x) (normal-value b m x hi (omega arith) (omega arith)) (mul-pos {m = m} (omega arith) (pow-pos x))
-    ∙ ap (nearestRoot binary32) (regroup m x 151 (b / 8388608 + 150) (omega arith))
+    ∙ ap (nearestRoot binary32) (regroup m x 151 (b / 0x800000 + 150) (omega arith))
 
 -- a value below the normal ones, with its digits moved up by z places
 pub record Moved (b z : ℕ) : Type 0 where
   pub enough : 8 ≤ leadingZeros 32 b
   pub few : z ≤ 23
-  pub low : 8388608 ≤ b * 2 ^ z
-  pub high : b * 2 ^ z < 16777216
+  pub low : 0x800000 ≤ b * 2 ^ z
+  pub high : b * 2 ^ z < 0x1000000
 
-pub moved : (b : ℕ) → 0 < b → b < 8388608 → Moved b (leadingZeros 32 b - 8)
+pub moved : (b : ℕ) → 0 < b → b < 0x800000 → Moved b (leadingZeros 32 b - 8)
 moved b B small =
     let t = leading-top 32 b B (omega arith) in
     let j = t .0 in
@@ -120,11 +124,12 @@ moved b B small =
       high = lt-of-lt-of-le (mul-lt-mul-of-pos-right (t .3) (pow-pos z)) (le-of-eq (sym (pow-add 2 (suc j) z) ∙ ap (λ (x : ℕ). 2 ^ x) q));
     }
 
-pub moved-whole : (b z : ℕ) → Moved b z → b * 2 ^ z % 4294967296 ≡ b * 2 ^ z
+pub moved-whole : (b z : ℕ) → Moved b z → b * 2 ^ z % 0x100000000 ≡ b * 2 ^ z
 moved-whole b z h = mod-eq-of-lt (omega (arith, h .high))
 
-pub subnormal-root : (b z : ℕ) → 0 < b → b < 8388608 → z ≤ 23 → rootOf binary32 (ofBits binary32 b) ≡ nearestRoot binary32 (b * 2 ^ z * 2 ^ (151 - z))
-subnormal-root b z B small few = root-of-value (ofBits binary32 b) b (subnormal-value b small) B ∙ ap (nearestRoot binary32) (sym (regroup b z (151 - z) 151 (omega arith)))
+pub subnormal-root : (b z : ℕ) → 0 < b → b < 0x800000 → z ≤ 23 → rootOf binary32 (ofBits binary32 b) ≡ nearestRoot binary32 (b * 2 ^ z * 2 ^ (151 - z))
+subnormal-root b z B small few =
+    root-of-value (ofBits binary32 b) b (subnormal-value b small) B ∙ ap (nearestRoot binary32) (sym (regroup b z (151 - z) 151 (omega arith)))
 
 -- ---- `root`: the other values
 pub nan-root : (x : Float) → ne x x ≡ true → x ≡ rootOf binary32 x
@@ -141,11 +146,11 @@ pub zero-root : ofBits binary32 0 ≡ rootOf binary32 (ofBits binary32 0)
 unfolding rootOf ofBits
 zero-root = refl
 
-pub minus-zero-root : ofBits binary32 2147483648 ≡ rootOf binary32 (ofBits binary32 2147483648)
+pub minus-zero-root : ofBits binary32 0x80000000 ≡ rootOf binary32 (ofBits binary32 0x80000000)
 unfolding rootOf ofBits
 minus-zero-root = refl
 
-pub infinity-root : ofBits binary32 2139095040 ≡ rootOf binary32 (ofBits binary32 2139095040)
+pub infinity-root : ofBits binary32 0x7f800000 ≡ rootOf binary32 (ofBits binary32 0x7f800000)
 unfolding rootOf ofBits
 infinity-root = refl
 
@@ -167,22 +172,26 @@ unfolding ofFields
 negative-fields zero t h = negative-value (odd 24 true t 0 149) (t * 1) (2 ^ 149) (odd-sign 24 true t 0 149) (mul-pos (h refl) (pow-pos 0))
 negative-fields (suc x) t h = go (eqb (suc x) 255) (eqb t 0)
   where
-    go : (p q : Bool) → rootOf binary32 (cond p (cond q (inf true) nan) (odd 24 true (8388608 + t) x 149)) ≡ nan
+    go : (p q : Bool) → rootOf binary32 (cond p (cond q (inf true) nan) (odd 24 true (0x800000 + t) x 149)) ≡ nan
     go true true = unfold rootOf in refl
     go true false = unfold rootOf in refl
-    go false q = negative-value (odd 24 true (8388608 + t) x 149) ((8388608 + t) * 2 ^ x) (2 ^ 149) (odd-sign 24 true (8388608 + t) x 149) (mul-pos {m = 8388608 + t} (omega arith) (pow-pos x))
+    go false q =
+        negative-value (odd 24 true (0x800000 + t) x 149) ((0x800000 + t) * 2 ^ x) (2 ^ 149) (odd-sign 24 true (0x800000 + t) x 149)
+        (mul-pos {m = 0x800000 + t} (omega arith) (pow-pos x))
 
 nan-fields : (s : Bool) (t : ℕ) → 0 < t → rootOf binary32 (ofFields binary32 s 255 t) ≡ nan
 unfolding ofFields rootOf
 nan-fields s zero h = absurd (lt-irrefl 0 h)
 nan-fields s (suc t) h = ap (λ (q : Bool). rootOf binary32 (cond q (inf s) nan)) (eqb·suc-zero t)
 
-pub no-root : (b : ℕ) → 2139095040 ≤ b → (b ≡ 2139095040 → ⊥) → (b ≡ 2147483648 → ⊥) → b < 4294967296 → rootOf binary32 (ofBits binary32 b) ≡ nan
-no-root b lo i z hi = ap (rootOf binary32) (ofBits-is b) ∙ go (leb 2147483648 b) (leb→le 2147483648 b) (nleb→lt 2147483648 b)
+pub no-root : (b : ℕ) → 0x7f800000 ≤ b → (b ≡ 0x7f800000 → ⊥) → (b ≡ 0x80000000 → ⊥) → b < 0x100000000 → rootOf binary32 (ofBits binary32 b) ≡ nan
+no-root b lo i z hi = ap (rootOf binary32) (ofBits-is b) ∙ go (leb 0x80000000 b) (leb→le 0x80000000 b) (nleb→lt 0x80000000 b)
   where
-    go : (s : Bool) → (T s → 2147483648 ≤ b) → (T (not s) → b < 2147483648) → rootOf binary32 (ofFields binary32 s (b % 2147483648 / 8388608) (b % 8388608)) ≡ nan
-    go true p q = let l : 2147483648 ≤ b = p tt in negative-fields (b % 2147483648 / 8388608) (b % 8388608) (λ (e : b % 2147483648 / 8388608 ≡ 0). omega arith)
+    go : (s : Bool) → (T s → 0x80000000 ≤ b) → (T (not s) → b < 0x80000000) →
+        rootOf binary32 (ofFields binary32 s (b % 0x80000000 / 0x800000) (b % 0x800000)) ≡ nan
+    go true p q =
+        let l : 0x80000000 ≤ b = p tt in negative-fields (b % 0x80000000 / 0x800000) (b % 0x800000) (λ (e : b % 0x80000000 / 0x800000 ≡ 0). omega arith)
     go false p q =
-        let l : b < 2147483648 = q tt in
-        let e : b % 2147483648 / 8388608 ≡ 255 = omega arith in
-        ap (λ (x : ℕ). rootOf binary32 (ofFields binary32 false x (b % 8388608))) e ∙ nan-fields false (b % 8388608) (omega arith)
+        let l : b < 0x80000000 = q tt in
+        let e : b % 0x80000000 / 0x800000 ≡ 255 = omega arith in
+        ap (λ (x : ℕ). rootOf binary32 (ofFields binary32 false x (b % 0x800000))) e ∙ nan-fields false (b % 0x800000) (omega arith)

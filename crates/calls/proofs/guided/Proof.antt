@@ -1,4 +1,4 @@
-use Rattle.guidance.specs.Calls.{perform}
+use Rattle.claims.specs.Calls.{perform}
 use Rattle.calls.proofs.guided.Statement.{statement}
 use Rattle.calls.proofs.guided.Tie as tie
 

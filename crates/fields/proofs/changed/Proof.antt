@@ -35,13 +35,21 @@ differs-requires : tie.Need-differs-requires Inv-loop μ-loop
 differs-requires c κs = tt
 
 add-m : tie.Need-add-m Inv-loop μ-loop
-add-m c = omega (arith, changed-fits _ _ (c .before .before .before .before .loop .inv) (c .before .before .before .before .before .before .before .pre .0) (c .before .before .before .before .before .before .before .pre .1))
+add-m c =
+    omega (
+      arith,
+      changed-fits _ _ (c .before .before .before .before .loop .inv)
+          (c .before .before .before .before .before .before .before .pre .0) (c .before .before .before .before .before .before .before .pre .1),
+    )
 
 loop-less : tie.Need-loop-less Inv-loop μ-loop
 loop-less c = omega arith
 
 loop-again : tie.Need-loop-again Inv-loop μ-loop
-loop-again c = changed-turn _ _ (c .before .before .before .before .loop .inv) (c .before .before .before .before .before .before .before .pre .0) (c .before .before .before .loop-test .taken) (c .differs .result) (c .differs .ensures .0)
+loop-again c =
+    changed-turn _ _ (c .before .before .before .before .loop .inv)
+    (c .before .before .before .before .before .before .before .pre .0) (c .before .before .before .loop-test .taken) (c .differs .result)
+    (c .differs .ensures .0)
 
 returns : tie.Need-returns Inv-loop μ-loop
 returns c =

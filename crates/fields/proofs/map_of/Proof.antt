@@ -17,7 +17,12 @@ sub-i : tie.Need-sub-i Inv-loop μ-loop
 sub-i c = omega arith
 
 mul-m : tie.Need-mul-m Inv-loop μ-loop
-mul-m c = omega (arith, map-fits (c .before .loop .inv) (c .before .before .before .before .before .pre .0) (c .before .before .before .before .before .pre .1) (c .before .before .before .before .before .pre .2))
+mul-m c =
+    omega (
+      arith,
+      map-fits (c .before .loop .inv) (c .before .before .before .before .before .pre .0)
+          (c .before .before .before .before .before .pre .1) (c .before .before .before .before .before .pre .2),
+    )
 
 shared-slice-read-is-written : tie.Need-shared-slice-read-is-written Inv-loop μ-loop
 shared-slice-read-is-written c = omega arith
@@ -38,13 +43,24 @@ is-written-requires : tie.Need-is-written-requires Inv-loop μ-loop
 is-written-requires c κs = tt
 
 add-m : tie.Need-add-m Inv-loop μ-loop
-add-m c = omega (arith, map-fits (c .before .before .before .before .before .loop .inv) (c .before .before .before .before .before .before .before .before .before .pre .0) (c .before .before .before .before .before .before .before .before .before .pre .1) (c .before .before .before .before .before .before .before .before .before .pre .2))
+add-m c =
+    omega (
+      arith,
+      map-fits (c .before .before .before .before .before .loop .inv)
+          (c .before .before .before .before .before .before .before .before .before .pre .0)
+          (c .before .before .before .before .before .before .before .before .before .pre .1)
+          (c .before .before .before .before .before .before .before .before .before .pre .2),
+    )
 
 loop-less : tie.Need-loop-less Inv-loop μ-loop
 loop-less c = omega arith
 
 loop-again : tie.Need-loop-again Inv-loop μ-loop
-loop-again c = map-turn (c .before .before .before .before .before .loop .inv) (c .before .before .before .before .before .before .before .before .before .pre .0) (c .before .before .before .before .before .before .before .before .before .pre .1) (c .before .before .before .before .loop-test .taken) (c .is-written .result) (c .is-written .ensures .0)
+loop-again c =
+    map-turn (c .before .before .before .before .before .loop .inv)
+    (c .before .before .before .before .before .before .before .before .before .pre .0)
+    (c .before .before .before .before .before .before .before .before .before .pre .1) (c .before .before .before .before .loop-test .taken)
+    (c .is-written .result) (c .is-written .ensures .0)
 
 returns : tie.Need-returns Inv-loop μ-loop
 returns c =

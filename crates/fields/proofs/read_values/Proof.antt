@@ -49,7 +49,9 @@ loop-less : tie.Need-loop-less Inv-loop μ-loop
 loop-less c = simp length-set (omega arith)
 
 loop-again : tie.Need-loop-again Inv-loop μ-loop
-loop-again c = read-turn (c .before .before .before .before .loop .inv) (c .before .before .before .loop-test .taken) (c .before .before .if2 .taken) (c .read-number .result) (c .read-number .ensures .0)
+loop-again c =
+    read-turn (c .before .before .before .before .loop .inv)
+    (c .before .before .before .loop-test .taken) (c .before .before .if2 .taken) (c .read-number .result) (c .read-number .ensures .0)
 
 loop-less-2 : tie.Need-loop-less-2 Inv-loop μ-loop
 loop-less-2 c = omega arith

@@ -53,7 +53,10 @@ loop-again c =
     let w = c .before .before .before .before .before .before .before .loop .inv in
     let t = c .before .before .before .before .before .before .loop-test .taken in
     let b = c .before .before .before .before .before .if2 .taken in
-    rw (rest-back (c .before .before .before .before .before .before .before .loop .part) (c .before .before .write-number .last .0) (c .before .before .before .before .before .before .before .loop .at) (omega (arith, write-room w t b)))
+    rw
+    (rest-back (c .before .before .before .before .before .before .before .loop .part)
+    (c .before .before .write-number .last .0) (c .before .before .before .before .before .before .before .loop .at)
+    (omega (arith, write-room w t b)))
     (write-turn w t b (c .before .before .write-number .last .0) (c .before .before .write-number .ensures))
 
 loop-less-2 : tie.Need-loop-less-2 Inv-loop μ-loop

@@ -46,11 +46,11 @@ returns-2 c = printed-all (stop-ends (c .before .before .before .before .before 
 enum-known-read-2 : tie.Need-enum-known-read-2 Inv-loop μ-loop
 enum-known-read-2 c = search needs
 
-perform-requires : tie.Need-perform-requires Inv-loop μ-loop
-perform-requires c κs = search needs
+call-line-requires : tie.Need-call-line-requires Inv-loop μ-loop
+call-line-requires c κs = search needs
 
 print-requires-2 : tie.Need-print-requires-2 Inv-loop μ-loop
-print-requires-2 c κs = turn-asks (c .before .before .before .before .before .before .before .before .before .before .loop .inv) (c .before .before .before .before .before .before .before .before .before .loop-test .taken) (c .before .before .before .before .before .before .before .before .if1 .left) _ _ (sym (c .before .before .before .before .before .before .before .read-call .ensures) ∙ c .before .before .before .before .before .read2 .given .1) _ (c .before .before .before .perform .ensures)
+print-requires-2 c κs = turn-asks (c .before .before .before .before .before .before .before .before .before .before .loop .inv) (c .before .before .before .before .before .before .before .before .before .loop-test .taken) (c .before .before .before .before .before .before .before .before .if1 .left) _ _ (sym (c .before .before .before .before .before .before .before .read-call .ensures) ∙ c .before .before .before .before .before .read2 .given .1) _ (c .before .before .before .call-line .ensures)
 
 add-n : tie.Need-add-n Inv-loop μ-loop
 add-n c = omega arith
@@ -59,7 +59,7 @@ loop-less : tie.Need-loop-less Inv-loop μ-loop
 loop-less c = omega arith
 
 loop-again : tie.Need-loop-again Inv-loop μ-loop
-loop-again c = call-turn (c .before .before .before .before .before .before .before .before .before .before .before .before .before .loop .inv) (c .before .before .before .before .before .before .before .before .before .before .before .before .loop-test .taken) (c .before .before .before .before .before .before .before .before .before .before .before .if1 .left) _ _ (sym (c .before .before .before .before .before .before .before .before .before .before .read-call .ensures) ∙ c .before .before .before .before .before .before .before .before .read2 .given .1) _ (c .before .before .before .before .before .before .perform .ensures) _ _ (c .before .before .print2 .ensures)
+loop-again c = call-turn (c .before .before .before .before .before .before .before .before .before .before .before .before .before .loop .inv) (c .before .before .before .before .before .before .before .before .before .before .before .before .loop-test .taken) (c .before .before .before .before .before .before .before .before .before .before .before .if1 .left) _ _ (sym (c .before .before .before .before .before .before .before .before .before .before .read-call .ensures) ∙ c .before .before .before .before .before .before .before .before .read2 .given .1) _ (c .before .before .before .before .before .before .call-line .ensures) _ _ (c .before .before .print2 .ensures)
 
 same-length-3 : tie.Need-same-length-3 Inv-loop μ-loop
 same-length-3 c = c .before .before .loop .inv .printed .long
@@ -96,7 +96,7 @@ calls-spec =
     same-length-2
     returns-2
     enum-known-read-2
-    perform-requires
+    call-line-requires
     print-requires-2
     add-n
     loop-less

@@ -4,7 +4,7 @@ use borrow.Rule.Slice.PartMut.{putMid}
 use lib.ListN.{length}
 use Rattle.lines.specs.Line.{text}
 use Rattle.lines.proofs.TextLaw.{text-short}
-use Rattle.replay.specs.Pass.{Prints}
+use Rattle.replay.specs.code.Pass.{Prints}
 use Rattle.replay.proofs.PrintLaw.{print-room, print-writes, print-measures, print-long}
 use borrow.Author.Needs.{needs}
 use Rattle.replay.proofs.print.Statement.{statement}

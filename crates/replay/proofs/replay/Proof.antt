@@ -1,5 +1,5 @@
 use native.Mathlib.Omega.{arith}
-use mathlib.Core.Path.{ap, _∙_}
+use mathlib.Core.Path.{ap, sym, _∙_}
 use native.Mathlib.Nat.{zero-add}
 use lib.ListN.{length}
 use Rattle.replay.proofs.PrintLaw.{not-asked, answer-text, answer-refused}
@@ -26,14 +26,14 @@ same-length-2 c = search needs
 returns-2 : tie.Need-returns-2
 returns-2 c = answer-text _ _ _ _ (omega (arith, c .before .before .before .before .if2 .left, c .before .before .before .before .before .before .before .pass .ensures .place, ap length (c .before .before .before .before .before .before .before .pass .ensures .bytes))) (rw (c .before .before .before .before .before .before .before .pass .ensures .bytes) at (c .before .before .pass2 .ensures))
 
-pass-requires-3 : tie.Need-pass-requires-3
-pass-requires-3 c κs = (λ q. omega (arith, text-fits (c .before .before .before .before .args .s .now), c .before .if1 .left))
+print-text-requires : tie.Need-print-text-requires
+print-text-requires c κs = c .before .if1 .left
 
 same-length-3 : tie.Need-same-length-3
 same-length-3 c = search needs
 
 returns-3 : tie.Need-returns-3
-returns-3 c = answer-text _ _ _ _ (omega (arith, text-fits (c .before .before .before .before .before .before .before .args .s .now), c .before .before .before .before .if1 .left)) (c .before .before .pass3 .ensures)
+returns-3 c = answer-text _ _ _ _ (omega (arith, text-fits (c .before .before .before .before .before .before .before .args .s .now), c .before .before .before .before .if1 .left)) (record { bytes = c .before .before .print-text .ensures .1; place = c .before .before .print-text .ensures .0 ∙ sym (zero-add _) })
 
 pub replay-spec : {M : Type 1} → statement M
 replay-spec =
@@ -45,6 +45,6 @@ replay-spec =
     pass-requires-2
     same-length-2
     returns-2
-    pass-requires-3
+    print-text-requires
     same-length-3
     returns-3)

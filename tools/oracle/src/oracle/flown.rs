@@ -58,6 +58,8 @@ pub trait Flown: Sized {
     fn set_config(&mut self, numbers: &Numbers) -> Result<(), u32>;
     fn prime(&mut self);
     fn guide_capped(&mut self, time_step: f32, regime: Regime, command: &Command) -> Setpoint;
+    /// The mode report: mode (0 copter, 1 plane), refusal (0 none, 1 unsupported).
+    fn flight_mode(&self) -> [u32; 2];
     fn state(&self) -> State;
     fn copy(&self) -> Self;
 }
@@ -77,8 +79,9 @@ macro_rules! flown {
             use $library::guidance::plane::tecs::{Demand, Tecs};
             use $library::guidance::plane::{PlaneGuidance, PlaneGuidanceConfig};
             use $library::{
-                AbsoluteAttitudeCommand, AbsoluteRateCommand, AttitudeCommand, Configurable, ControlInput,
-                FlightRegime, Guidance, LandCommand, RateCommand, Vec2, Vec3, VehicleState, WaypointCommand,
+                AbsoluteAttitudeCommand, AbsoluteRateCommand, AttitudeCommand, Configurable, ControlInput, FlightMode,
+                FlightRegime, Guidance, LandCommand, ModeRefusal, RateCommand, Vec2, Vec3, VehicleState,
+                WaypointCommand,
             };
 
             pub struct Plane(pub PlaneGuidance);
@@ -221,6 +224,21 @@ macro_rules! flown {
                         }
                         _ => unreachable!("the plane guidance gives no other setpoint"),
                     }
+                }
+
+                fn flight_mode(&self) -> [u32; 2] {
+                    let report = self.0.flight_mode().expect("the plane guidance gives a report");
+                    let mode = match report.mode {
+                        FlightMode::Copter => 0,
+                        FlightMode::Plane => 1,
+                        _ => unreachable!("the plane guidance flies no transition"),
+                    };
+                    let refusal = match report.refusal {
+                        None => 0,
+                        Some(ModeRefusal::Unsupported) => 1,
+                        _ => unreachable!("the plane guidance has no other reason"),
+                    };
+                    [mode, refusal]
                 }
 
                 fn state(&self) -> State {

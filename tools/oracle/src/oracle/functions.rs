@@ -7,9 +7,9 @@ use stable_flight::{Vec2, VehicleState, math};
 
 use crate::configuration::{self, Numbers};
 use crate::flown::judge::{self, energy_state, tecs};
-use crate::flown::{EnergyState, validate};
+use crate::flown::{EnergyState, Flown, validate};
 use crate::numbers::{ENERGY_COLUMNS, configuration_columns};
-use crate::record::{Waypoint, bits};
+use crate::record::{Command, Regime, Waypoint, bits};
 
 pub struct Function {
     pub name: &'static str,
@@ -152,7 +152,18 @@ pub fn all() -> Vec<Function> {
     functions.extend(energy());
     functions.push(function("validate", &configuration_columns(), |w| vec![validate(&w.numbers())]));
     functions.push(function("default", "", |_| words(&configuration::default())));
+    functions.push(function("flight_mode", "", |_| flight_modes()));
     functions
+}
+
+/// The mode reports of guidances that were asked for copter and for plane flight: mode and refusal of each.
+fn flight_modes() -> Vec<u32> {
+    let report = |regime| {
+        let mut guidance = judge::Plane::new(&configuration::default());
+        guidance.guide_capped(1.0, regime, &Command::Land);
+        guidance.flight_mode()
+    };
+    [report(Regime::Copter), report(Regime::Plane)].concat()
 }
 
 fn arithmetic() -> Vec<Function> {

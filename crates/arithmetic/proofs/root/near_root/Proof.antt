@@ -1,98 +1,72 @@
--- `root::near_root` meets its contract. Assumes nothing.
-use borrow.Author.Needs.{needs}
-use mathlib.Core.Path.{_≡_, ap, _∙_}
-use native.Mathlib.Numerals.{add-one}
-use Rattle.arithmetic.proofs.root.Squares.{square-suc}
-use Prim.Native.Nat.{ℕ, _≤_, _<_, _+_, _*_, _-_}
-use native.Mathlib.Nat.{mul-le-mul, not-le-of-lt, lt-of-not-le}
+-- `root::near_root` meets its contract: the guess is the nearest whole number or the one above it. Assumes nothing.
+-- 0x1000000000000 is 2 ^ 48.
+use mathlib.Core.Path.{_≡_, sym, subst}
+use mathlib.Core.Bool.{Bool, true, false, not}
+use Prim.Native.Nat.{ℕ, zero, suc, _≤_, _<_, _+_, _*_, _-_}
+use lib.Dec.{T, leb, leb→le, nleb→lt}
+use mir.Val.{boolByte}
+use native.Mathlib.Nat.{mul-le-mul, mul-le-mul-right, not-le-of-lt, lt-of-not-le}
 use native.Mathlib.Omega.{arith}
+use borrow.Author.Needs.{needs}
+use Rattle.arithmetic.specs.Root.{NearestWhole}
+use Rattle.arithmetic.specs.code.Guess.{Beside}
 use Rattle.arithmetic.proofs.root.near_root.Statement.{statement}
 use Rattle.arithmetic.proofs.root.near_root.Tie as tie
 
-abbrev Inv-loop : tie.InvT-loop
-Inv-loop m b v₀ v = v ≤ 33554432
+beside : (c : tie.After-guess) → Beside (c .before .args .m) (c .guess .result)
+beside c = subst (λ (m : ℕ). Beside m (c .guess .result)) (sym (c .before .pre .2)) (c .guess .ensures)
 
-abbrev μ-loop : tie.MeasureT-loop
-μ-loop m b v₀ v = v
+-- below 2 ^ 25
+small : (m v : ℕ) → m < 0x1000000000000 → Beside m v → v < 0x2000000
+small m v M h =
+    lt-of-not-le (λ (g : 0x2000000 ≤ v). not-le-of-lt (h .not-above) (omega (arith, mul-le-mul-right v g)))
 
-abbrev Inv-loop2 : tie.InvT-loop2
-Inv-loop2 m b v₀ v = (v ≤ 33554432) × (v * v < m + v)
+-- the test takes one off where the guess is the one above
+positive : (m v : ℕ) → Beside m v → 1 ≤ v
+positive m zero h = absurd (not-le-of-lt (h .not-above) (omega (arith, h .not-below)))
+positive m (suc v) h = omega arith
 
-abbrev μ-loop2 : tie.MeasureT-loop2
-μ-loop2 m b v₀ v = 33554432 - v
+at-most : (m v : ℕ) → Beside m v → boolByte (leb (m + v) (v * v)) ≤ v
+at-most m v h = go (leb (m + v) (v * v))
+  where
+    go : (b : Bool) → boolByte b ≤ v
+    go true = positive m v h
+    go false = omega arith
 
--- v is above 0 where its square is, so while its square is m + v at least, for an m above 0
-positive : (v : ℕ) → 1 ≤ v * v → 1 ≤ v
-positive v h = lt-of-not-le (λ (g : v ≤ 0). not-le-of-lt h (omega (arith, mul-le-mul g g)))
+one-less : (m u : ℕ) → Beside m (suc u) → m + suc u ≤ suc u * suc u → NearestWhole m u
+one-less m u h l = record { above-lower = omega (arith, h .not-above); below-upper = omega arith }
 
--- v is below 2 ^ 24 while its square is below 2 ^ 48
-small : (m v : ℕ) → m < 281474976710656 → v * v + v < m → v < 16777216
-small m v M h = lt-of-not-le (λ (g : 16777216 ≤ v). not-le-of-lt M (omega (arith, mul-le-mul g g)))
+mended : (m v : ℕ) → Beside m v → NearestWhole m (v - boolByte (leb (m + v) (v * v)))
+mended m v h = go (leb (m + v) (v * v)) (leb→le (m + v) (v * v)) (nleb→lt (m + v) (v * v))
+  where
+    go : (b : Bool) → (T b → m + v ≤ v * v) → (T (not b) → v * v < m + v) → NearestWhole m (v - boolByte b)
+    go true p q =
+        let e : suc (v - 1) ≡ v = omega (arith, positive m v h) in
+        one-less m (v - 1) (subst (Beside m) (sym e) h) (subst (λ (x : ℕ). m + x ≤ x * x) (sym e) (p tt))
+    go false p q =
+        let e : v ≡ v - 0 = omega arith in
+        subst (NearestWhole m) e (record { above-lower = q tt; below-upper = h .not-below })
 
-square-one : (v : ℕ) → (v + 1) * (v + 1) ≡ v * v + 2 * v + 1
-square-one v = ap (λ (x : ℕ). x * x) (add-one v) ∙ square-suc v
-
-guess-requires : tie.Need-guess-requires Inv-loop μ-loop Inv-loop2 μ-loop2
+guess-requires : tie.Need-guess-requires
 guess-requires c κs = search needs
 
-loop-holds : tie.Need-loop-holds Inv-loop μ-loop Inv-loop2 μ-loop2
-loop-holds c = search needs
+mul-result : tie.Need-mul-result
+mul-result c =
+    let v : c .guess .result ≤ 0x2000000 = omega (arith, small _ _ (c .before .pre .1) (beside c)) in
+    omega (arith, mul-le-mul v v)
 
-mul-loop : tie.Need-mul-loop Inv-loop μ-loop Inv-loop2 μ-loop2
-mul-loop c = omega (arith, mul-le-mul (c .loop .inv) (c .loop .inv))
+add-result : tie.Need-add-result
+add-result c = omega (arith, small _ _ (c .before .pre .1) (beside c), c .before .pre .1)
 
-add-loop : tie.Need-add-loop Inv-loop μ-loop Inv-loop2 μ-loop2
-add-loop c = search needs
+cast-result : tie.Need-cast-result
+cast-result c = search needs
 
-sub-v : tie.Need-sub-v Inv-loop μ-loop Inv-loop2 μ-loop2
-sub-v c = positive (c .before .loop .v) (omega arith)
+sub-result : tie.Need-sub-result
+sub-result c = at-most (c .before .args .m) (c .guess .result) (beside c)
 
-loop-less : tie.Need-loop-less Inv-loop μ-loop Inv-loop2 μ-loop2
-loop-less c = omega (arith, positive (c .before .loop .v) (omega arith))
-
-loop-again : tie.Need-loop-again Inv-loop μ-loop Inv-loop2 μ-loop2
-loop-again c = search needs
-
-loop2-holds : tie.Need-loop2-holds Inv-loop μ-loop Inv-loop2 μ-loop2
-loop2-holds c = search needs
-
-mul-loop2 : tie.Need-mul-loop2 Inv-loop μ-loop Inv-loop2 μ-loop2
-mul-loop2 c = omega (arith, mul-le-mul (c .loop2 .inv .0) (c .loop2 .inv .0))
-
-add-loop2 : tie.Need-add-loop2 Inv-loop μ-loop Inv-loop2 μ-loop2
-add-loop2 c = omega (arith, mul-le-mul (c .loop2 .inv .0) (c .loop2 .inv .0))
-
-add-v : tie.Need-add-v Inv-loop μ-loop Inv-loop2 μ-loop2
-add-v c = search needs
-
-loop2-less : tie.Need-loop2-less Inv-loop μ-loop Inv-loop2 μ-loop2
-loop2-less c = omega (arith, small _ (c .before .loop2 .v) (c .before .before .before .before .before .pre .1) (c .loop2-test .taken))
-
-loop2-again : tie.Need-loop2-again Inv-loop μ-loop Inv-loop2 μ-loop2
-loop2-again c = omega (arith, square-one (c .before .loop2 .v), small _ (c .before .loop2 .v) (c .before .before .before .before .before .pre .1) (c .loop2-test .taken))
-
-returns : tie.Need-returns Inv-loop μ-loop Inv-loop2 μ-loop2
-returns c = search needs
+returns : tie.Need-returns
+returns c = mended (c .before .args .m) (c .guess .result) (beside c)
 
 pub near-root-spec : {M : Type 1} → statement M
 near-root-spec =
-    tie.close
-    (tie.spec
-    Inv-loop
-    μ-loop
-    Inv-loop2
-    μ-loop2
-    guess-requires
-    loop-holds
-    mul-loop
-    add-loop
-    sub-v
-    loop-less
-    loop-again
-    loop2-holds
-    mul-loop2
-    add-loop2
-    add-v
-    loop2-less
-    loop2-again
-    returns)
+    tie.close (tie.spec guess-requires mul-result add-result cast-result sub-result returns)

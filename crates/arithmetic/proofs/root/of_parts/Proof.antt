@@ -1,10 +1,13 @@
 -- `root::of_parts` meets its contract. Assumes nothing.
-use mathlib.Core.Path.{_≡_, ap, _∙_, subst}
-use Prim.Native.Nat.{ℕ, _+_, _-_, _*_, _/_, _%_, _^_, _<_}
+-- 0x800000 is 2 ^ 23, 0x1000000 is 2 ^ 24.
+use mathlib.Core.Path.{_≡_, sym, ap, _∙_, subst}
+use mathlib.Core.Logic.{inl, inr}
+use Prim.Native.Nat.{ℕ, _+_, _-_, _*_, _/_, _%_, _^_, _≤_, _<_}
 use native.Mathlib.Omega.{arith}
 use lib.Ieee.{binary32}
 use Rattle.arithmetic.specs.Root.{NearestWhole, nearestRoot}
-use Rattle.arithmetic.proofs.root.Whole.{Widened, widened, half-power, greatest, built, no-nan}
+use Rattle.arithmetic.specs.code.Guess.{wide as placed}
+use Rattle.arithmetic.proofs.root.Whole.{Widened, even-or-odd, widened, half-power, greatest, built, no-nan}
 use borrow.Author.Needs.{needs}
 use Rattle.arithmetic.proofs.root.of_parts.Statement.{statement}
 use Rattle.arithmetic.proofs.root.of_parts.Tie as tie
@@ -12,13 +15,29 @@ use Rattle.arithmetic.proofs.root.of_parts.Tie as tie
 abbrev moved : tie.Start → ℕ
 moved c = c .args .m * 2 ^ (24 - c .args .g % 2)
 
+-- the place of m in its stretch
+stretch : (m g : ℕ) → 0x800000 ≤ m → m < 0x1000000 →
+    placed ((g % 2 * 0x800000 + m % 0x800000) / 0x20000) ((g % 2 * 0x800000 + m % 0x800000) % 0x20000) ≡ m * 2 ^ (24 - g % 2)
+stretch m g lo hi =
+    let b = g % 2 * 0x800000 + m % 0x800000 in
+    let p : 0x800000 + b / 0x20000 % 64 * 0x20000 + b % 0x20000 ≡ m = omega arith in
+    let q : b / 0x20000 / 64 ≡ g % 2 = omega arith in
+    ap (λ (x : ℕ). x * (0x800000 * (2 - b / 0x20000 / 64))) p ∙ ap (λ (x : ℕ). m * (0x800000 * (2 - x))) q ∙ ap (λ (x : ℕ). m * x) (power g)
+  where
+    power : (g : ℕ) → 0x800000 * (2 - g % 2) ≡ 2 ^ (24 - g % 2)
+    power g =
+        elim (even-or-odd g) [
+          | inl e ↦ rw e
+          | inr e ↦ rw e
+        ]
+
 wide : (c : tie.Start) → Widened (c .args .m) (moved c)
 wide c = widened (c .args .m) (c .args .g) (c .pre .0) (c .pre .1)
 
 near : (c : tie.After-near-root) → NearestWhole (moved (c .before .before)) (c .near-root .result)
 near c = subst (λ (n : ℕ). NearestWhole n (c .near-root .result)) (c .before .widened .ensures) (c .near-root .ensures)
 
-small : (c : tie.After-near-root) → c .near-root .result < 16777216
+small : (c : tie.After-near-root) → c .near-root .result < 0x1000000
 small c = greatest (moved (c .before .before)) (c .near-root .result) (wide (c .before .before) .high) (near c)
 
 widened-requires : tie.Need-widened-requires
@@ -31,7 +50,14 @@ add-near-root : tie.Need-add-near-root
 add-near-root c = search needs
 
 near-root-requires : tie.Need-near-root-requires
-near-root-requires c κs = let w = wide (c .before) in omega (arith, c .widened .ensures, w .low, w .high)
+near-root-requires c κs =
+    let w = wide (c .before) in
+    let a = c .before .args in
+    let p = c .before .pre in (
+      omega arith,
+      omega (arith, c .widened .ensures, w .low, w .high),
+      c .widened .ensures ∙ sym (stretch (a .m) (a .g) (p .0) (p .1)),
+    )
 
 add-result : tie.Need-add-result
 add-result c = search needs
@@ -49,7 +75,7 @@ cast-result : tie.Need-cast-result
 cast-result c = omega (arith, small c)
 
 float-from-bits-result : tie.Need-float-from-bits-result
-float-from-bits-result c = no-nan (((c .before .before .args .g + 1) / 2 - 13) * 8388608 + c .near-root .result) (omega (arith, small c))
+float-from-bits-result c = no-nan (((c .before .before .args .g + 1) / 2 - 13) * 0x800000 + c .near-root .result) (omega (arith, small c))
 
 returns : tie.Need-returns
 returns c =

@@ -1,4 +1,5 @@
 -- `root::root` meets its contract. Assumes nothing.
+-- 0x80000000 is 2 ^ 31, 0x7f800000 is the infinity's pattern.
 use mathlib.Core.Path.{_≡_, sym, ap, _∙_, subst}
 use Prim.Native.Nat.{ℕ, _-_, _*_, _^_}
 use native.Mathlib.Omega.{arith}
@@ -8,7 +9,8 @@ use lib.Ieee.{Float, binary32, fits, ofBits, toBits}
 use lib.Ieee.Bits.{ofBits-toBits, toBits-lt}
 use Rattle.arithmetic.specs.Root.{nearestRoot, rootOf, IsRoot}
 use Rattle.arithmetic.proofs.root.Law.{is-root}
-use Rattle.arithmetic.proofs.root.Whole.{Moved, moved, moved-whole, nan-root, no-nan-value, zero-root, minus-zero-root, infinity-root, zero-by-zero, no-root, normal-root, subnormal-root}
+use Rattle.arithmetic.proofs.root.Whole.{Moved, moved, moved-whole, nan-root, no-nan-value, zero-root, minus-zero-root, infinity-root}
+use Rattle.arithmetic.proofs.root.Whole.{zero-by-zero, no-root, normal-root, subnormal-root}
 use borrow.Author.Needs.{needs}
 use Rattle.arithmetic.proofs.root.root.Statement.{statement}
 use Rattle.arithmetic.proofs.root.root.Tie as tie
@@ -86,10 +88,10 @@ of-parts-requires-2 : tie.Need-of-parts-requires-2
 of-parts-requires-2 c κs = search needs
 
 returns-3 : tie.Need-returns-3
-returns-3 c = itself (c .before .before .before) 2139095040 (c .if5 .taken) infinity-root
+returns-3 c = itself (c .before .before .before) 0x7f800000 (c .if5 .taken) infinity-root
 
 returns-4 : tie.Need-returns-4
-returns-4 c = itself (c .before .before .before .before) 2147483648 (c .if6 .taken) minus-zero-root
+returns-4 c = itself (c .before .before .before .before) 0x80000000 (c .if6 .taken) minus-zero-root
 
 returns-5 : tie.Need-returns-5
 returns-5 c =
@@ -111,7 +113,8 @@ returns-6 c =
 returns-7 : tie.Need-returns-7
 returns-7 c =
     let s = c .before .before .before .before in
-    at s _ (zero-by-zero ∙ sym (no-root (pattern s) (c .before .before .if2 .left) (c .before .if5 .left) (c .if6 .left) (toBits-lt binary32 (s .args .x) (held s))))
+    at s _ (zero-by-zero ∙ sym (no-root (pattern s) (c .before .before .if2 .left) (c .before .if5 .left) (c .if6 .left)
+    (toBits-lt binary32 (s .args .x) (held s))))
 
 pub root-spec : {M : Type 1} → statement M
 root-spec =

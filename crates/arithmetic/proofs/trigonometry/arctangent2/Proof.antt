@@ -42,7 +42,16 @@ returns-4 c =
     let d = a .before .before in
     let s = d .before in
     let h = below (s .args .y) (s .args .x) (d .if1 .left) (a .before .if2 .left) (c .before .before .if3 .left) in
-    rw (← ne-self (s .args .y), ← ne-self (s .args .x), d .if1 .left, c .before .before .if3 .left, h, ← c .before .is-negative .ensures, c .if4 .taken, ← a .arctangent .ensures)
+    rw (
+      ← ne-self (s .args .y),
+      ← ne-self (s .args .x),
+      d .if1 .left,
+      c .before .before .if3 .left,
+      h,
+      ← c .before .is-negative .ensures,
+      c .if4 .taken,
+      ← a .arctangent .ensures,
+    )
 
 returns-5 : tie.Need-returns-5
 unfolding arctangent2
@@ -51,7 +60,16 @@ returns-5 c =
     let d = a .before .before in
     let s = d .before in
     let h = below (s .args .y) (s .args .x) (d .if1 .left) (a .before .if2 .left) (c .before .before .if3 .left) in
-    rw (← ne-self (s .args .y), ← ne-self (s .args .x), d .if1 .left, c .before .before .if3 .left, h, ← c .before .is-negative .ensures, c .if4 .left, ← a .arctangent .ensures)
+    rw (
+      ← ne-self (s .args .y),
+      ← ne-self (s .args .x),
+      d .if1 .left,
+      c .before .before .if3 .left,
+      h,
+      ← c .before .is-negative .ensures,
+      c .if4 .left,
+      ← a .arctangent .ensures,
+    )
 
 pub arctangent2-spec : {M : Type 1} → statement M
 arctangent2-spec = tie.close (tie.spec returns (λ c κs. tt) returns-2 (λ c κs. tt) returns-3 (λ c κs. tt) returns-4 returns-5)

@@ -1,3 +1,4 @@
+-- 0x80000000 is 2 ^ 31.
 use mathlib.Core.Path.{_≡_, sym, ap, _∙_, subst}
 use mathlib.Core.Bool.{false}
 use Prim.Native.Nat.{ℕ, _%_}
@@ -22,7 +23,7 @@ number c = finite-number (c .args .r) (c .pre)
 
 -- the bits without the sign bit
 abbrev bits : tie.Start → ℕ
-bits c = toBits binary32 (c .args .r) % 2147483648
+bits c = toBits binary32 (c .args .r) % 0x80000000
 
 sized : (c : tie.Start) → ofBits binary32 (bits c) ≡ size (c .args .r)
 sized c = size-bits (c .args .r) (held c) (number c)

@@ -54,7 +54,9 @@ loop-less c = simp length-set (omega arith)
 loop-again : tie.Need-loop-again Inv-loop μ-loop
 loop-again c =
     let n = c .before in
-    float-turn (n .before .before .before .before .loop .inv) (n .before .before .before .loop-test .taken) (n .before .before .if2 .taken) (n .read-number .result) (n .read-number .ensures .0) (c .from-bits .result) (c .from-bits .ensures)
+    float-turn (n .before .before .before .before .loop .inv)
+    (n .before .before .before .loop-test .taken) (n .before .before .if2 .taken) (n .read-number .result) (n .read-number .ensures .0)
+    (c .from-bits .result) (c .from-bits .ensures)
 
 loop-less-2 : tie.Need-loop-less-2 Inv-loop μ-loop
 loop-less-2 c = omega arith

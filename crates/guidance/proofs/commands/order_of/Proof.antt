@@ -1,5 +1,5 @@
 use borrow.Author.Needs.{needs}
-use Rattle.guidance.specs.Orders.{orderOf}
+use Rattle.guidance.specs.code.Orders.{orderOf}
 use Rattle.guidance.proofs.commands.order_of.Statement.{statement}
 use Rattle.guidance.proofs.commands.order_of.Tie as tie
 

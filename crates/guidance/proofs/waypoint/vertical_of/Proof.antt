@@ -10,7 +10,7 @@ returns c =
     let i = s .before in
     let m = i .before in
     let e = m .before .before in
-    rw (c .on-path .ensures, s .step .ensures, i .inputs-of .ensures, m .limits-of .ensures, e .enum-told .given .1)
+    rw (c .on-path .ensures, s .energy-step .ensures, i .inputs-of .ensures, m .limits-of .ensures, e .enum-told .given .1)
 
 returns-2 : tie.Need-returns-2
 unfolding vertical

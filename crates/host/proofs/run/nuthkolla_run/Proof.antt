@@ -55,13 +55,14 @@ use Rattle.laws.proofs.tecs.Tecs.Laws as Energy′
 use Rattle.host.proofs.Kept.{run-keeps}
 use Rattle.host.specs.Run.{run as runOf}
 use Rattle.guidance.specs.declared.plane.PlaneGuidance.{PlaneGuidance}
+use Rattle.claims.specs.Calls.{Settings, settingsOf}
 use Rattle.guidance.proofs.plane.PlaneGuidance as T
 use Rattle.guidance.proofs.plane.PlaneGuidance.Laws as T′
 use Rattle.host.specs.declared.run.Ran.{Ran}
 use Rattle.host.proofs.run.Ran as S
 use Rattle.host.proofs.run.Ran.Laws as S′
-use Rattle.host.proofs.answer.RunAnswer as O
-use Rattle.host.proofs.answer.RunAnswer.Laws as O′
+use Rattle.host_answers.proofs.answer.RunAnswer as O
+use Rattle.host_answers.proofs.answer.RunAnswer.Laws as O′
 use Rattle.host.proofs.run.run as callee
 use Rattle.host.proofs.run.run.Symbol as callee-def
 use Rattle.host.proofs.run.run.Symbol.{name as #host·run·run}
@@ -79,8 +80,8 @@ abbrev stayed : Stays (f.ended .signature .params) (f.ended .kept)
 stayed = (stay-ref (0 ∷ []) tt (plain (λ _. T.the-row)), (stay-none (λ _. u32) yes, (stay-none-slice (1 ∷ []) tt (plain (λ _. u8)) yes, tt)))
 
 -- what is not put back is as it was
-same-config : (h : PlaneGuidance) (n : ℕ) (s : List ℕ) (r : Ran) → n ≡ 0 → r ≡ runOf h n s → h .config ≡ r .guidance .config
-same-config h n s r z e = sym (ap (λ (y : Ran). y .guidance .config) (e ∙ ap (λ (m : ℕ). runOf h m s) z) ∙ run-keeps h s)
+same-settings : (h : PlaneGuidance) (n : ℕ) (s : List ℕ) (r : Ran) → n ≡ 0 → r ≡ runOf h n s → settingsOf h ≡ settingsOf (r .guidance)
+same-settings h n s r z e = sym (ap (λ (y : Ran). settingsOf (y .guidance)) (e ∙ ap (λ (m : ℕ). runOf h m s) z) ∙ run-keeps h s)
 
 double-not : (t : Bool) → T (not (not t)) → T t
 double-not true z = z
@@ -159,9 +160,9 @@ module _ {M : Type 1} (𝓤 : URA M) (H : Heap 𝓤) (A : Atoms 𝓤) (W : Given
       feqI ! (List Val) (vptr b o ∷ []) (vptr b o ∷ []) refl $ fjoin3 ! $ nothing ! $ move ! (2 ∷ 0 ∷ []) $ fjoin ! $ owned ! u32 (Is u32) (uint-makes 𝓤 H A W w32) n _ ok $ fjoin ! $ move ! (1 ∷ 0 ∷ []) $ fjoin ! $
       owned ! O.the-row (Is O.the-row) ((LL.makes O.the-type O′.the-plain) 𝓤 H A) (r .answer) _ (answer-of r is) $ move ! (1 ∷ 0 ∷ []) $ done !
 
-  -- the guidance with another configuration
-  abbrev with-config : PlaneGuidanceConfig → PlaneGuidance
-  with-config c = record { config = c; requested = h .requested; altitude = h .altitude; tecs = h .tecs }
+  -- the guidance with other settings
+  abbrev with-settings : Settings → PlaneGuidance
+  with-settings t = record { config = t .config; requested = h .requested; altitude = h .altitude; tecs = h .tecs }
 
   abbrev ref-ty : Ty
   ref-ty = tyRef (named 0) mut (pointee (T.the-row .written))
@@ -186,7 +187,7 @@ module _ {M : Type 1} (𝓤 : URA M) (H : Heap 𝓤) (A : Atoms 𝓤) (W : Given
         ‵ (froom O′.mir l₀ 0) ∷ ‵ (fdies O′.mir l₀) ∷ []
 
     -- from the second field on
-    puts-back : Sq W (Before (with-config (r .guidance .config))) (runs C Λ Locals parts.t-5 (atRet Locals Post))
+    puts-back : Sq W (Before (with-settings (settingsOf (r .guidance)))) (runs C Λ Locals parts.t-5 (atRet Locals Post))
     puts-back =
         assigns ! (of-opd ! (load ! (from ! (fld ! refl (fld ! refl (stop !)))) (look-in ! 8 (sub ! 1 refl (sub ! 0 refl (whole !)))))) (from ! (hop ! (look ! 16 refl) (fld ! refl (stop !)))) (store-in ! 2 (sub ! 1 refl (whole !)) (tt, record { fits = requested-of r is .1 })) $
         assigns ! (of-opd ! (load ! (from ! (fld ! refl (fld ! refl (stop !)))) (look-in ! 8 (sub ! 2 refl (sub ! 0 refl (whole !)))))) (from ! (hop ! (look ! 16 refl) (fld ! refl (stop !)))) (store-in ! 2 (sub ! 2 refl (whole !)) (LL.lawful Altitude.the-type Altitude′.the-laws 𝓤 H A W .typed (r .guidance .altitude) _ (altitude-of r is) .0)) $
@@ -209,7 +210,7 @@ module _ {M : Type 1} (𝓤 : URA M) (H : Heap 𝓤) (A : Atoms 𝓤) (W : Given
         (λ t. assigns-last ! (of-opd ! (load ! (from ! (fld ! refl (fld ! refl (stop !)))) (look-in ! 8 (sub ! 0 refl (sub ! 0 refl (whole !)))))) (from ! (hop ! (look ! 16 refl) (fld ! refl (stop !)))) (store-in ! 2 (sub ! 0 refl (whole !)) (LL.lawful Config.the-type Config′.the-laws 𝓤 H A W .typed (r .guidance .config) _ (config-of r is) .0)) $
         exec ! C Λ Locals parts.t-5 (atRet Locals Post) $ puts-back)
         (λ z. skips ! $ exec ! C Λ Locals parts.t-5 (atRet Locals Post) $
-        rewrite ! 2 (λ (c : PlaneGuidanceConfig). ‵ (fat fullShare T′.mir b o (mach (with-config c)))) (same-config h n (now s) r (is-zero n z) e) refl $ puts-back)
+        rewrite ! 2 (λ (t : Settings). ‵ (fat fullShare T′.mir b o (mach (with-settings t)))) (same-settings h n (now s) r (is-zero n z) e) refl $ puts-back)
 
     ends : Sq W (Before h) (runs C Λ Locals parts.t-4 (atRet Locals Post))
     ends = first ! $ puts-config

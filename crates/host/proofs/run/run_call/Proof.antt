@@ -1,6 +1,6 @@
 use mathlib.Core.Path.{ap}
 use borrow.Author.Needs.{needs}
-use Rattle.guidance.specs.Calls.{Outcome}
+use Rattle.claims.specs.Calls.{Outcome}
 use Rattle.host.specs.Run.{runCall, performed}
 use Rattle.host.proofs.run.run_call.Statement.{statement}
 use Rattle.host.proofs.run.run_call.Tie as tie

@@ -1,6 +1,6 @@
 use borrow.Author.Needs.{needs}
 use Rattle.host.specs.Run.{runConfig, performed}
-use Rattle.guidance.specs.Calls.{perform}
+use Rattle.claims.specs.Calls.{perform}
 use Rattle.host.proofs.run.run_config.Statement.{statement}
 use Rattle.host.proofs.run.run_config.Tie as tie
 

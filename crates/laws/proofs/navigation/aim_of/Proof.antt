@@ -1,5 +1,5 @@
 use borrow.Author.Needs.{needs}
-use Rattle.laws.specs.Steering.{aimOf}
+use Rattle.laws.specs.code.Steering.{aimOf}
 use Rattle.laws.proofs.navigation.aim_of.Statement.{statement}
 use Rattle.laws.proofs.navigation.aim_of.Tie as tie
 

@@ -1,5 +1,5 @@
 use borrow.Author.Needs.{needs}
-use Rattle.laws.specs.Steering.{badRadius}
+use Rattle.laws.specs.code.Steering.{badRadius}
 use Rattle.laws.proofs.navigation.bad_radius.Statement.{statement}
 use Rattle.laws.proofs.navigation.bad_radius.Tie as tie
 

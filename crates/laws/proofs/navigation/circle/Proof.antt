@@ -1,5 +1,5 @@
 use borrow.Author.Needs.{needs}
-use Rattle.laws.specs.Steering.{circle}
+use Rattle.laws.specs.code.Steering.{circle}
 use Rattle.laws.proofs.navigation.circle.Statement.{statement}
 use Rattle.laws.proofs.navigation.circle.Tie as tie
 

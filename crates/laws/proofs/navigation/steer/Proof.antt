@@ -1,4 +1,5 @@
-use Rattle.laws.specs.Steering.{steer}
+use borrow.Author.Needs.{needs}
+use Rattle.laws.specs.code.Steering.{steer}
 use Rattle.laws.proofs.navigation.steer.Statement.{statement}
 use Rattle.laws.proofs.navigation.steer.Tie as tie
 
@@ -6,11 +7,11 @@ returns : tie.Need-returns
 unfolding steer
 returns c =
     let t = c .before in
-    rw (c .with-centripetal .ensures, t .track-to .ensures, t .before .before .before .if1 .taken)
+    rw (c .with-centripetal .ensures, t .track-to .ensures, t .before .before .before .before .aim .given .1)
 
 returns-2 : tie.Need-returns-2
 unfolding steer
-returns-2 c = rw (c .centripetal .ensures, c .before .if1 .left)
+returns-2 c = rw (c .centripetal .ensures, c .before .enum-told .given .1)
 
 pub steer-spec : {M : Type 1} → statement M
-steer-spec = tie.close (tie.spec (λ c κs. tt) (λ c κs. tt) (λ c κs. tt) returns returns-2)
+steer-spec = tie.close (tie.spec (λ c. search needs) (λ c κs. tt) (λ c κs. tt) (λ c. search needs) (λ c κs. tt) returns returns-2)

@@ -15,7 +15,19 @@ returns c =
     let c8 = c7 .before in
     let c9 = c8 .before in
     let c10 = c9 .before in
-    rw (← c10 .l1 .ensures, ← c9 .difference .ensures, ← c8 .cross .ensures, ← c7 .capture .ensures, ← c6 .course .ensures, ← c5 .clamp-symmetric .ensures, ← c2 .sine .ensures, ← c1 .is-finite .ensures, ← c .choose .ensures)
+    rw (
+      ← c10 .l1 .ensures,
+      ← c9 .difference .ensures,
+      ← c8 .cross .ensures,
+      ← c7 .capture .ensures,
+      ← c6 .course .ensures,
+      ← c5 .clamp-symmetric .ensures,
+      ← c2 .sine .ensures,
+      ← c1 .is-finite .ensures,
+      ← c .choose .ensures,
+    )
 
 pub track-along-spec : {M : Type 1} → statement M
-track-along-spec = tie.close (tie.spec (λ c κs. tt) (λ c κs. tt) (λ c κs. tt) (λ c κs. tt) (λ c κs. tt) (λ c κs. tt) (λ c κs. tt) (λ c κs. tt) (λ c κs. tt) returns)
+track-along-spec =
+    tie.close
+    (tie.spec (λ c κs. tt) (λ c κs. tt) (λ c κs. tt) (λ c κs. tt) (λ c κs. tt) (λ c κs. tt) (λ c κs. tt) (λ c κs. tt) (λ c κs. tt) returns)

@@ -1,5 +1,5 @@
 use borrow.Author.Needs.{needs}
-use Rattle.laws.specs.Steering.{trackTo}
+use Rattle.laws.specs.code.Steering.{trackTo}
 use Rattle.laws.proofs.navigation.track_to.Statement.{statement}
 use Rattle.laws.proofs.navigation.track_to.Tie as tie
 

@@ -16,7 +16,14 @@ returns c =
     let c9 = c8 .before in
     let c10 = c9 .before in
     let c11 = c10 .before in
-    rw (← c11 .clamp-symmetric .ensures, ← c9 .clamp .ensures, ← c7 .turn-rate .ensures, ← c6 .feedforward .ensures, ← c1 .clamp2 .ensures, ← c .clamp3 .ensures)
+    rw (
+      ← c11 .clamp-symmetric .ensures,
+      ← c9 .clamp .ensures,
+      ← c7 .turn-rate .ensures,
+      ← c6 .feedforward .ensures,
+      ← c1 .clamp2 .ensures,
+      ← c .clamp3 .ensures,
+    )
 
 pub balanced-thrust-spec : {M : Type 1} → statement M
 balanced-thrust-spec = tie.close (tie.spec (λ c κs. tt) (λ c κs. tt) (λ c κs. tt) (λ c κs. tt) (λ c κs. tt) (λ c κs. tt) returns)

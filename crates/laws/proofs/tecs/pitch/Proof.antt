@@ -22,7 +22,16 @@ returns c =
     let c15 = c14 .before in
     let c16 = c15 .before in
     let c17 = c16 .before in
-    rw (← c17 .flag .ensures, ← c16 .choose .ensures, ← c15 .least .ensures, ← c14 .least2 .ensures, ← c9 .clamp .ensures, ← c2 .pitch-integral .ensures, ← c1 .clamp2 .ensures, ← c .clamp3 .ensures)
+    rw (
+      ← c17 .flag .ensures,
+      ← c16 .choose .ensures,
+      ← c15 .least .ensures,
+      ← c14 .least2 .ensures,
+      ← c9 .clamp .ensures,
+      ← c2 .pitch-integral .ensures,
+      ← c1 .clamp2 .ensures,
+      ← c .clamp3 .ensures,
+    )
 
 pub pitch-spec : {M : Type 1} → statement M
 pitch-spec = tie.close (tie.spec (λ c κs. tt) (λ c κs. tt) (λ c κs. tt) (λ c κs. tt) (λ c κs. tt) (λ c κs. tt) (λ c κs. tt) (λ c κs. tt) returns)

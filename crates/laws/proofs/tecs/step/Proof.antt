@@ -4,14 +4,11 @@ use Rattle.laws.proofs.tecs.step.Tie as tie
 
 returns : tie.Need-returns
 unfolding step
-returns c =
-    let c1 = c .before in
-    let c2 = c1 .before in
-    let c3 = c2 .before in
-    let c4 = c3 .before in
-    let c5 = c4 .before in
-    let c6 = c5 .before in
-    rw (← c6 .update-underspeed .ensures, ← c5 .greatest .ensures, ← c4 .update-energies .ensures, ← c1 .thrust .ensures, ← c .pitch .ensures)
+returns c = rw (c .energy-step .ensures, ← c .before .before .all-inputs-finite .ensures, c .before .if1 .taken)
+
+returns-2 : tie.Need-returns-2
+unfolding step
+returns-2 c = rw (c .hold .ensures, ← c .before .before .all-inputs-finite .ensures, c .before .if1 .left)
 
 pub step-spec : {M : Type 1} → statement M
-step-spec = tie.close (tie.spec (λ c κs. tt) (λ c κs. tt) (λ c κs. tt) (λ c κs. tt) (λ c κs. tt) returns)
+step-spec = tie.close (tie.spec (λ c κs. tt) (λ c κs. tt) (λ c κs. tt) returns returns-2)

@@ -23,10 +23,17 @@ add-t10 : tie.Need-add-t10
 add-t10 c = search needs
 
 returns : tie.Need-returns
-returns c = rw (c .read-number .ensures .0, rest-is (c .before .before .before .before .args .s .now) (c .before .before .before .before .args .from .at)) (byte-read (c .before .before .before .before .args .s .now) (c .before .before .before .before .args .from .at) (c .before .before .before .before .args .stands) (c .before .before .before .before .args .missing) (eq-eqb _ _ (c .before .before .if1 .taken)))
+returns c =
+    rw
+    (c .read-number .ensures .0, rest-is (c .before .before .before .before .args .s .now) (c .before .before .before .before .args .from .at))
+    (byte-read (c .before .before .before .before .args .s .now)
+    (c .before .before .before .before .args .from .at) (c .before .before .before .before .args .stands)
+    (c .before .before .before .before .args .missing) (eq-eqb _ _ (c .before .before .if1 .taken)))
 
 returns-2 : tie.Need-returns-2
-returns-2 c = byte-missing (c .before .before .args .s .now) (c .before .before .args .from .at) (c .before .before .args .stands) (c .before .before .args .missing) (ne-eqb _ _ (c .if1 .left))
+returns-2 c =
+    byte-missing (c .before .before .args .s .now) (c .before .before .args .from .at)
+    (c .before .before .args .stands) (c .before .before .args .missing) (ne-eqb _ _ (c .if1 .left))
 
 pub read-byte-spec : {M : Type 1} → statement M
 read-byte-spec =

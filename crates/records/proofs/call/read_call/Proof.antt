@@ -32,7 +32,9 @@ is-complete-requires : tie.Need-is-complete-requires
 is-complete-requires c κs = search needs
 
 returns-3 : tie.Need-returns-3
-returns-3 c = incomplete _ _ (omega (arith, c .before .before .before .before .if2 .left)) _ (c .before .before .read-number .ensures .0) _ (c .before .is-complete .ensures) (not-true _ (c .if3 .taken))
+returns-3 c =
+    incomplete _ _ (omega (arith, c .before .before .before .before .if2 .left)) _
+    (c .before .before .read-number .ensures .0) _ (c .before .is-complete .ensures) (not-true _ (c .if3 .taken))
 
 fields-size-requires : tie.Need-fields-size-requires
 fields-size-requires c κs = search needs
@@ -44,37 +46,87 @@ sub-if4 : tie.Need-sub-if4
 sub-if4 c = search needs
 
 returns-4 : tie.Need-returns-4
-returns-4 c = short _ _ (omega (arith, c .before .before .before .before .before .before .if2 .left)) _ (c .before .before .before .before .read-number .ensures .0) _ (c .before .before .before .is-complete .ensures) (not-false _ (c .before .before .if3 .left)) _ (c .before .fields-size .ensures .0) (omega (arith, c .if4 .taken))
+returns-4 c =
+    short _ _ (omega (arith, c .before .before .before .before .before .before .if2 .left)) _
+    (c .before .before .before .before .read-number .ensures .0) _ (c .before .before .before .is-complete .ensures)
+    (not-false _ (c .before .before .if3 .left)) _ (c .before .fields-size .ensures .0) (omega (arith, c .if4 .taken))
 
 add-t11 : tie.Need-add-t11
 add-t11 c = search needs
 
 read-byte-requires : tie.Need-read-byte-requires
-read-byte-requires c κs = omega (arith, c .before .fields-size .ensures .0, size-is (c .before .before .before .before .read-number .result), c .if4 .left, c .before .before .before .before .before .before .if2 .left, c .before .before .before .before .before .before .before .if1 .left)
+read-byte-requires c κs =
+    omega (
+      arith,
+      c .before .fields-size .ensures .0,
+      size-is (c .before .before .before .before .read-number .result),
+      c .if4 .left,
+      c .before .before .before .before .before .before .if2 .left,
+      c .before .before .before .before .before .before .before .if1 .left,
+    )
 
 read-byte-requires-2 : tie.Need-read-byte-requires-2
-read-byte-requires-2 c κs = regime-room _ _ (omega (arith, c .before .before .before .before .before .before .before .if2 .left)) _ (c .before .before .before .before .before .read-number .ensures .0) _ (c .before .before .before .before .is-complete .ensures) (not-false _ (c .before .before .before .if3 .left)) _ (c .before .before .fields-size .ensures .0) (omega (arith, c .before .if4 .left)) _ _ (c .read-byte .ensures) refl
+read-byte-requires-2 c κs =
+    regime-room _ _
+    (omega (arith, c .before .before .before .before .before .before .before .if2 .left)) _
+    (c .before .before .before .before .before .read-number .ensures .0) _ (c .before .before .before .before .is-complete .ensures)
+    (not-false _ (c .before .before .before .if3 .left)) _ (c .before .before .fields-size .ensures .0) (omega (arith, c .before .if4 .left)) _ _
+    (c .read-byte .ensures) refl
 
 returns-5 : tie.Need-returns-5
-returns-5 c = kind-above _ _ (omega (arith, c .before .before .before .before .before .before .before .before .before .before .if2 .left)) _ (c .before .before .before .before .before .before .before .before .read-number .ensures .0) _ (c .before .before .before .before .before .before .before .is-complete .ensures) (not-false _ (c .before .before .before .before .before .before .if3 .left)) _ (c .before .before .before .before .before .fields-size .ensures .0) (omega (arith, c .before .before .before .before .if4 .left)) _ _ (c .before .before .before .read-byte .ensures) (c .before .before .read-byte2 .ensures) (c .if5 .taken)
+returns-5 c =
+    kind-above _ _
+    (omega (arith, c .before .before .before .before .before .before .before .before .before .before .if2 .left)) _
+    (c .before .before .before .before .before .before .before .before .read-number .ensures .0) _
+    (c .before .before .before .before .before .before .before .is-complete .ensures)
+    (not-false _ (c .before .before .before .before .before .before .if3 .left)) _
+    (c .before .before .before .before .before .fields-size .ensures .0) (omega (arith, c .before .before .before .before .if4 .left)) _ _
+    (c .before .before .before .read-byte .ensures) (c .before .before .read-byte2 .ensures) (c .if5 .taken)
 
 returns-6 : tie.Need-returns-6
-returns-6 c = regime-above _ _ (omega (arith, c .before .before .before .before .before .before .before .before .before .before .before .before .if2 .left)) _ (c .before .before .before .before .before .before .before .before .before .before .read-number .ensures .0) _ (c .before .before .before .before .before .before .before .before .before .is-complete .ensures) (not-false _ (c .before .before .before .before .before .before .before .before .if3 .left)) _ (c .before .before .before .before .before .before .before .fields-size .ensures .0) (omega (arith, c .before .before .before .before .before .before .if4 .left)) _ _ (c .before .before .before .before .before .read-byte .ensures) (c .before .before .before .before .read-byte2 .ensures) (c .before .before .if5 .left) (c .if6 .taken)
+returns-6 c =
+    regime-above _ _
+    (omega (arith, c .before .before .before .before .before .before .before .before .before .before .before .before .if2 .left)) _
+    (c .before .before .before .before .before .before .before .before .before .before .read-number .ensures .0) _
+    (c .before .before .before .before .before .before .before .before .before .is-complete .ensures)
+    (not-false _ (c .before .before .before .before .before .before .before .before .if3 .left)) _
+    (c .before .before .before .before .before .before .before .fields-size .ensures .0)
+    (omega (arith, c .before .before .before .before .before .before .if4 .left)) _ _ (c .before .before .before .before .before .read-byte .ensures)
+    (c .before .before .before .before .read-byte2 .ensures) (c .before .before .if5 .left) (c .if6 .taken)
 
 read-numbers-requires : tie.Need-read-numbers-requires
-read-numbers-requires c κs = numbers-room _ _ (omega (arith, c .before .before .before .before .before .before .before .before .before .before .before .before .if2 .left)) _ (c .before .before .before .before .before .before .before .before .before .before .read-number .ensures .0) _ (c .before .before .before .before .before .before .before .before .before .is-complete .ensures) (not-false _ (c .before .before .before .before .before .before .before .before .if3 .left)) _ (c .before .before .before .before .before .before .before .fields-size .ensures .0) (omega (arith, c .before .before .before .before .before .before .if4 .left)) _ _ (c .before .before .before .before .before .read-byte .ensures) (c .before .before .before .before .read-byte2 .ensures)
+read-numbers-requires c κs =
+    numbers-room _ _
+    (omega (arith, c .before .before .before .before .before .before .before .before .before .before .before .before .if2 .left)) _
+    (c .before .before .before .before .before .before .before .before .before .before .read-number .ensures .0) _
+    (c .before .before .before .before .before .before .before .before .before .is-complete .ensures)
+    (not-false _ (c .before .before .before .before .before .before .before .before .if3 .left)) _
+    (c .before .before .before .before .before .before .before .fields-size .ensures .0)
+    (omega (arith, c .before .before .before .before .before .before .if4 .left)) _ _ (c .before .before .before .before .before .read-byte .ensures)
+    (c .before .before .before .before .read-byte2 .ensures)
 
 regime-of-requires : tie.Need-regime-of-requires
 regime-of-requires c κs = search needs
 
-call-of-requires : tie.Need-call-of-requires
-call-of-requires c κs = search needs
+call-at-requires : tie.Need-call-at-requires
+call-at-requires c κs = search needs
 
 add-t9 : tie.Need-add-t9
 add-t9 c = omega (arith, c .before .before .before .before .before .before .before .before .before .if4 .left, c .before .before .before .before .before .before .before .before .before .before .before .before .before .before .before .before .if1 .left, c .before .before .before .before .before .before .before .before .before .before .before .before .before .before .before .before .before .before .good)
 
 returns-7 : tie.Need-returns-7
-returns-7 c = whole _ _ (omega (arith, c .before .before .before .before .before .before .before .before .before .before .before .before .before .before .before .if2 .left)) _ (c .before .before .before .before .before .before .before .before .before .before .before .before .before .read-number .ensures .0) _ (c .before .before .before .before .before .before .before .before .before .before .before .before .is-complete .ensures) (not-false _ (c .before .before .before .before .before .before .before .before .before .before .before .if3 .left)) _ (c .before .before .before .before .before .before .before .before .before .before .fields-size .ensures .0) (omega (arith, c .before .before .before .before .before .before .before .before .before .if4 .left)) _ _ (c .before .before .before .before .before .before .before .before .read-byte .ensures) (c .before .before .before .before .before .before .before .read-byte2 .ensures) (c .before .before .before .before .before .if5 .left) (c .before .before .before .if6 .left) _ _ _ (c .before .before .read-numbers .ensures) (c .before .regime-of .ensures) (c .call-of .ensures)
+returns-7 c =
+    whole _ _
+    (omega
+    (arith, c .before .before .before .before .before .before .before .before .before .before .before .before .before .before .before .if2 .left))
+    _ (c .before .before .before .before .before .before .before .before .before .before .before .before .before .read-number .ensures .0) _
+    (c .before .before .before .before .before .before .before .before .before .before .before .before .is-complete .ensures)
+    (not-false _ (c .before .before .before .before .before .before .before .before .before .before .before .if3 .left)) _
+    (c .before .before .before .before .before .before .before .before .before .before .fields-size .ensures .0)
+    (omega (arith, c .before .before .before .before .before .before .before .before .before .if4 .left)) _ _
+    (c .before .before .before .before .before .before .before .before .read-byte .ensures)
+    (c .before .before .before .before .before .before .before .read-byte2 .ensures) (c .before .before .before .before .before .if5 .left)
+    (c .before .before .before .if6 .left) _ _ _ (c .before .before .read-numbers .ensures) (c .before .regime-of .ensures) (c .call-at .ensures)
 
 pub read-call-spec : {M : Type 1} → statement M
 read-call-spec =
@@ -100,6 +152,6 @@ read-call-spec =
     returns-6
     read-numbers-requires
     regime-of-requires
-    call-of-requires
+    call-at-requires
     add-t9
     returns-7)

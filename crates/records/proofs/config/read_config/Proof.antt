@@ -45,7 +45,10 @@ sub-if4 : tie.Need-sub-if4
 sub-if4 c = search needs
 
 returns-4 : tie.Need-returns-4
-returns-4 c = short _ _ (omega (arith, c .before .before .before .before .before .if2 .left)) _ (c .before .before .before .read-number .ensures .0) (c .before .before .if3 .left) _ (counted _ _ (c .before .before .if3 .left) (c .before .count .ensures .0)) (omega (arith, c .if4 .taken))
+returns-4 c =
+    short _ _ (omega (arith, c .before .before .before .before .before .if2 .left)) _
+    (c .before .before .before .read-number .ensures .0) (c .before .before .if3 .left) _
+    (counted _ _ (c .before .before .if3 .left) (c .before .count .ensures .0)) (omega (arith, c .if4 .taken))
 
 default-bits-requires : tie.Need-default-bits-requires
 default-bits-requires c κs = search needs
@@ -59,13 +62,36 @@ slice-aggregate-read-values c = search needs
 read-values-requires : tie.Need-read-values-requires
 read-values-requires c κs =
     let long : length (c .before .default-bits .result) ≡ 33 = ap length (c .before .default-bits .ensures) ∙ bits-long default in
-    rw long (omega (arith, counted _ _ (c .before .before .before .before .if3 .left) (c .before .before .before .count .ensures .0), c .before .before .if4 .left, c .before .before .before .before .before .before .before .before .if1 .left))
+    rw long
+    (omega (
+      arith,
+      counted _ _ (c .before .before .before .before .if3 .left) (c .before .before .before .count .ensures .0),
+      c .before .before .if4 .left,
+      c .before .before .before .before .before .before .before .before .if1 .left,
+    ))
 
 config-of-bits-requires : tie.Need-config-of-bits-requires
 config-of-bits-requires c κs = search needs
 
 returns-5 : tie.Need-returns-5
-returns-5 c = whole _ _ (omega (arith, c .before .before .before .before .before .before .before .before .before .before .if2 .left, c .before .before .before .before .before .before .before .before .before .before .before .if1 .left)) _ (c .before .before .before .before .before .before .before .before .read-number .ensures .0) (c .before .before .before .before .before .before .before .if3 .left) _ (counted _ _ (c .before .before .before .before .before .before .before .if3 .left) (c .before .before .before .before .before .before .count .ensures .0)) (omega (arith, c .before .before .before .before .before .if4 .left, c .before .before .before .before .before .before .before .before .before .before .before .if1 .left)) _ _ _ _ (c .before .before .before .before .default-bits .ensures) (c .before .before .read-values .ensures .0) (c .before .before .read-values .ensures .1) (c .config-of-bits .ensures)
+returns-5 c =
+    whole _ _
+    (omega (
+      arith,
+      c .before .before .before .before .before .before .before .before .before .before .if2 .left,
+      c .before .before .before .before .before .before .before .before .before .before .before .if1 .left,
+    ))
+    _ (c .before .before .before .before .before .before .before .before .read-number .ensures .0)
+    (c .before .before .before .before .before .before .before .if3 .left) _
+    (counted _ _ (c .before .before .before .before .before .before .before .if3 .left)
+    (c .before .before .before .before .before .before .count .ensures .0))
+    (omega (
+      arith,
+      c .before .before .before .before .before .if4 .left,
+      c .before .before .before .before .before .before .before .before .before .before .before .if1 .left,
+    ))
+    _ _ _ _ (c .before .before .before .before .default-bits .ensures) (c .before .before .read-values .ensures .0)
+    (c .before .before .read-values .ensures .1) (c .config-of-bits .ensures)
 
 pub read-config-spec : {M : Type 1} → statement M
 read-config-spec =

@@ -28,7 +28,10 @@ returns : tie.Need-returns
 returns c =
     let b = c .before .before .before .bits-of .ensures in
     let m = map-is (c .before .before .before .before .before .args .c) _ _ b (c .before .before .config-map .ensures .0) in
-    refused _ _ (configRecord (c .before .before .before .before .before .args .c)) _ (record-long (c .before .before .before .before .before .args .c) _ _ b m _ (counted _ _ (c .before .before .config-map .ensures .1) (c .before .count .ensures .0))) (omega (arith, c .if1 .taken))
+    refused _ _ (configRecord (c .before .before .before .before .before .args .c)) _
+    (record-long (c .before .before .before .before .before .args .c) _ _ b m _
+    (counted _ _ (c .before .before .config-map .ensures .1) (c .before .count .ensures .0)))
+    (omega (arith, c .if1 .taken))
 
 sub-if2 : tie.Need-sub-if2
 sub-if2 c = search needs
@@ -37,7 +40,10 @@ returns-2 : tie.Need-returns-2
 returns-2 c =
     let b = c .before .before .before .before .bits-of .ensures in
     let m = map-is (c .before .before .before .before .before .before .args .c) _ _ b (c .before .before .before .config-map .ensures .0) in
-    refused _ _ (configRecord (c .before .before .before .before .before .before .args .c)) _ (record-long (c .before .before .before .before .before .before .args .c) _ _ b m _ (counted _ _ (c .before .before .before .config-map .ensures .1) (c .before .before .count .ensures .0))) (omega (arith, c .if2 .taken))
+    refused _ _ (configRecord (c .before .before .before .before .before .before .args .c)) _
+    (record-long (c .before .before .before .before .before .before .args .c) _ _ b m _
+    (counted _ _ (c .before .before .before .config-map .ensures .1) (c .before .before .count .ensures .0)))
+    (omega (arith, c .if2 .taken))
 
 sub-write-fields : tie.Need-sub-write-fields
 sub-write-fields c = search needs
@@ -54,7 +60,12 @@ slice-aggregate-write-fields c = search needs
 write-fields-requires : tie.Need-write-fields-requires
 write-fields-requires c κs =
     let long : length (c .before .before .before .before .before .before .bits-of .result) ≡ 33 = ap length (c .before .before .before .before .before .before .bits-of .ensures) ∙ bits-long (c .before .before .before .before .before .before .before .before .args .c) in
-    rw long (omega (arith, counted _ _ (c .before .before .before .before .before .config-map .ensures .1) (c .before .before .before .before .count .ensures .0), c .before .before .if2 .left))
+    rw long
+    (omega (
+      arith,
+      counted _ _ (c .before .before .before .before .before .config-map .ensures .1) (c .before .before .before .before .count .ensures .0),
+      c .before .before .if2 .left,
+    ))
 
 add-t8 : tie.Need-add-t8
 add-t8 c = search needs
@@ -66,7 +77,16 @@ returns-3 : tie.Need-returns-3
 returns-3 c =
     let b = c .before .before .before .before .before .before .before .before .before .bits-of .ensures in
     let m = map-is (c .before .before .before .before .before .before .before .before .before .before .before .args .c) _ _ b (c .before .before .before .before .before .before .before .before .config-map .ensures .0) in
-    accepted _ _ (configRecord (c .before .before .before .before .before .before .before .before .before .before .before .args .c)) _ (record-long (c .before .before .before .before .before .before .before .before .before .before .before .args .c) _ _ b m _ (counted _ _ (c .before .before .before .before .before .before .before .before .config-map .ensures .1) (c .before .before .before .before .before .before .before .count .ensures .0))) (omega (arith, c .before .before .before .before .before .if2 .left, c .before .before .before .before .before .before .if1 .left)) _ (c .before .before .write-fields .ensures ∙ rw (record-is (c .before .before .before .before .before .before .before .before .before .before .before .args .c) _ _ b m))
+    accepted _ _
+    (configRecord (c .before .before .before .before .before .before .before .before .before .before .before .args .c)) _
+    (record-long
+    (c .before .before .before .before .before .before .before .before .before .before .before .args .c) _ _ b m _
+    (counted _ _
+    (c .before .before .before .before .before .before .before .before .config-map .ensures .1)
+    (c .before .before .before .before .before .before .before .count .ensures .0)))
+    (omega (arith, c .before .before .before .before .before .if2 .left, c .before .before .before .before .before .before .if1 .left)) _
+    (c .before .before .write-fields .ensures
+    ∙ rw (record-is (c .before .before .before .before .before .before .before .before .before .before .before .args .c) _ _ b m))
 
 pub write-config-spec : {M : Type 1} → statement M
 write-config-spec =

@@ -19,7 +19,10 @@ same-length c = search needs
 returns : tie.Need-returns
 returns c =
     let a = c .before .before .before .before .before .before .before .before .before .before .args in
-    put-after 5 (a .part .now) (c .before .before .before .before .before .before .write-number .last .0) _ (bytesOf 5 (a .map)) _ (bytes-long 5 (a .map)) (omega (arith, c .before .before .before .before .before .before .before .before .before .before .pre)) (c .before .before .before .before .before .before .write-number .ensures) (c .before .before .write-values .ensures .0)
+    put-after 5 (a .part .now)
+    (c .before .before .before .before .before .before .write-number .last .0) _ (bytesOf 5 (a .map)) _ (bytes-long 5 (a .map))
+    (omega (arith, c .before .before .before .before .before .before .before .before .before .before .pre))
+    (c .before .before .before .before .before .before .write-number .ensures) (c .before .before .write-values .ensures .0)
 
 pub write-fields-spec : {M : Type 1} → statement M
 write-fields-spec =

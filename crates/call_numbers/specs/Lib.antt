@@ -1,0 +1,2 @@
+-- A call as a host gives it: numbers and flags.
+pub mod Call

@@ -1,0 +1,20 @@
+-- What `new` gives and every call keeps, holds along every run. Assumes nothing.
+use mathlib.Core.Path.{_≡_}
+use mathlib.Core.List.{List, [], _∷_}
+use Rattle.laws.specs.Config.{validate}
+use Rattle.laws.specs.declared.config.PlaneGuidanceConfig.{PlaneGuidanceConfig}
+use Rattle.guidance.specs.Plane.{fresh}
+use Rattle.claims.specs.Calls.{Call, perform, after}
+use Rattle.guidance.specs.declared.plane.PlaneGuidance.{PlaneGuidance}
+use Rattle.claims.proofs.Limited.{still-valid}
+
+pub along : (P : PlaneGuidance → Type 0) → ((g : PlaneGuidance) (k : Call) → P g → P (perform g k .next)) → (g : PlaneGuidance) → P g →
+    (ks : List Call) → P (after g ks)
+unfolding after
+along P keeps g p [] = p
+along P keeps g p (k ∷ ks) = along P keeps (perform g k .next) (keeps g k p) ks
+
+-- the configuration of every guidance that calls make is valid
+pub valid-along : (c : PlaneGuidanceConfig) → validate c ≡ 0 → (ks : List Call) → validate (after (fresh c) ks .config) ≡ 0
+unfolding fresh
+valid-along c e ks = along (λ (g : PlaneGuidance). validate (g .config) ≡ 0) still-valid (fresh c) e ks

@@ -1,0 +1,5 @@
+-- Document 01, "Guidance": lists of calls on a guidance, and demand 3 about them.
+pub mod Calls
+pub mod Limits
+pub mod Clamps
+pub mod Demand3

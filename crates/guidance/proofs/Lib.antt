@@ -1,7 +1,0 @@
--- Demand 3's proof, and what crates above cite of it.
-pub mod Alike
-pub mod Strike
-pub mod Limited
-pub mod Runs
-pub mod Demand3
-mod Variants

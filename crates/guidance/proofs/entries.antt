@@ -1,0 +1,2 @@
+-- Lemmas of a command's proofs.
+mod Orders

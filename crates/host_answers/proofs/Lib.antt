@@ -1,0 +1,2 @@
+-- What the walks of functions by reference cite.
+pub mod Kept

@@ -1,0 +1,3 @@
+-- What is wanted of records and recordings, for every value.
+pub mod Laws
+pub mod Recordings

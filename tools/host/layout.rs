@@ -1,0 +1,124 @@
+//! The Rust wrapper's sizes, places and numbers under the header's names, as layout.c prints the header's.
+
+use nuthkolla::{ffi, PlaneGuidanceConfig, TecsConfig, Vec3, CALL_BYTES, CONFIG_BYTES};
+use std::mem::{offset_of, size_of, size_of_val, zeroed};
+
+macro_rules! size {
+    ($name:literal, $type:ty) => {
+        println!("{} {}", $name, size_of::<$type>())
+    };
+}
+
+// Every struct here is numbers alone, so that zeros are one.
+macro_rules! at {
+    ($name:literal, $type:ty, $($field:tt)+) => {{
+        let zeros: $type = unsafe { zeroed() };
+        println!("{} {} {}", $name, offset_of!($type, $($field)+), size_of_val(&zeros.$($field)+))
+    }};
+}
+
+macro_rules! element {
+    ($name:literal, $type:ty, $array:ident, $index:literal) => {{
+        let zeros: $type = unsafe { zeroed() };
+        let size = size_of_val(&zeros.$array[$index]);
+        println!("{} {} {}", $name, offset_of!($type, $array) + $index * size, size)
+    }};
+}
+
+fn main() {
+    size!("nuthkolla_vec3", Vec3);
+    size!("nuthkolla_tecs_config", TecsConfig);
+    size!("nuthkolla_config", PlaneGuidanceConfig);
+    at!("nuthkolla_config.max_bank_rad", PlaneGuidanceConfig, max_bank_rad);
+    at!("nuthkolla_config.max_pitch_up_rad", PlaneGuidanceConfig, max_pitch_up_rad);
+    at!("nuthkolla_config.max_pitch_down_rad", PlaneGuidanceConfig, max_pitch_down_rad);
+    at!("nuthkolla_config.max_rate_radps.x", PlaneGuidanceConfig, max_rate_radps.x);
+    at!("nuthkolla_config.max_rate_radps.y", PlaneGuidanceConfig, max_rate_radps.y);
+    at!("nuthkolla_config.max_rate_radps.z", PlaneGuidanceConfig, max_rate_radps.z);
+    at!("nuthkolla_config.trim_pitch_rad", PlaneGuidanceConfig, trim_pitch_rad);
+    at!("nuthkolla_config.cruise_thrust", PlaneGuidanceConfig, cruise_thrust);
+    at!("nuthkolla_config.l1_period_s", PlaneGuidanceConfig, l1_period_s);
+    at!("nuthkolla_config.l1_damping", PlaneGuidanceConfig, l1_damping);
+    at!("nuthkolla_config.loiter_radius_m", PlaneGuidanceConfig, loiter_radius_m);
+    at!("nuthkolla_config.altitude_p", PlaneGuidanceConfig, altitude_p);
+    at!("nuthkolla_config.altitude_i", PlaneGuidanceConfig, altitude_i);
+    at!("nuthkolla_config.altitude_max_integral", PlaneGuidanceConfig, altitude_max_integral);
+    at!("nuthkolla_config.tecs.time_constant_s", PlaneGuidanceConfig, tecs.time_constant_s);
+    at!("nuthkolla_config.tecs.max_climb_mps", PlaneGuidanceConfig, tecs.max_climb_mps);
+    at!("nuthkolla_config.tecs.min_sink_mps", PlaneGuidanceConfig, tecs.min_sink_mps);
+    at!("nuthkolla_config.tecs.max_sink_mps", PlaneGuidanceConfig, tecs.max_sink_mps);
+    at!("nuthkolla_config.tecs.thrust_damping", PlaneGuidanceConfig, tecs.thrust_damping);
+    at!("nuthkolla_config.tecs.integrator_gain", PlaneGuidanceConfig, tecs.integrator_gain);
+    at!("nuthkolla_config.tecs.pitch_damping", PlaneGuidanceConfig, tecs.pitch_damping);
+    at!("nuthkolla_config.tecs.pitch_integrator_gain", PlaneGuidanceConfig, tecs.pitch_integrator_gain);
+    at!("nuthkolla_config.tecs.speed_weight", PlaneGuidanceConfig, tecs.speed_weight);
+    at!("nuthkolla_config.tecs.roll_compensation", PlaneGuidanceConfig, tecs.roll_compensation);
+    at!("nuthkolla_config.tecs.min_airspeed_mps", PlaneGuidanceConfig, tecs.min_airspeed_mps);
+    at!("nuthkolla_config.tecs.max_airspeed_mps", PlaneGuidanceConfig, tecs.max_airspeed_mps);
+    at!("nuthkolla_config.tecs.underspeed_share", PlaneGuidanceConfig, tecs.underspeed_share);
+    at!("nuthkolla_config.tecs.height_demand_time_constant_s", PlaneGuidanceConfig, tecs.height_demand_time_constant_s);
+    at!("nuthkolla_config.tecs.airspeed_rate_time_constant_s", PlaneGuidanceConfig, tecs.airspeed_rate_time_constant_s);
+    at!("nuthkolla_config.tecs.kinetic_rate_high_pass_s", PlaneGuidanceConfig, tecs.kinetic_rate_high_pass_s);
+    at!("nuthkolla_config.min_thrust", PlaneGuidanceConfig, min_thrust);
+    at!("nuthkolla_config.max_thrust", PlaneGuidanceConfig, max_thrust);
+    at!("nuthkolla_config.climb_thrust_per_rad", PlaneGuidanceConfig, climb_thrust_per_rad);
+    size!("nuthkolla_tecs", ffi::Tecs);
+    size!("nuthkolla_guidance", ffi::Guidance);
+    at!("nuthkolla_guidance.config", ffi::Guidance, config);
+    at!("nuthkolla_guidance.requested", ffi::Guidance, requested);
+    at!("nuthkolla_guidance.altitude.integral", ffi::Guidance, altitude_integral);
+    at!("nuthkolla_guidance.tecs.seeded", ffi::Guidance, tecs.seeded);
+    at!("nuthkolla_guidance.tecs.demand.slewed_height_m", ffi::Guidance, tecs.slewed_height_m);
+    at!("nuthkolla_guidance.tecs.demand.height_m", ffi::Guidance, tecs.height_m);
+    at!("nuthkolla_guidance.tecs.demand.airspeed_mps", ffi::Guidance, tecs.airspeed_mps);
+    at!("nuthkolla_guidance.tecs.pitch_integral_rad", ffi::Guidance, tecs.pitch_integral_rad);
+    at!("nuthkolla_guidance.tecs.thrust_integral", ffi::Guidance, tecs.thrust_integral);
+    at!("nuthkolla_guidance.tecs.underspeed", ffi::Guidance, tecs.underspeed);
+    at!("nuthkolla_guidance.tecs.filtered_airspeed_mps", ffi::Guidance, tecs.filtered_airspeed_mps);
+    at!("nuthkolla_guidance.tecs.steady_accel_mps2", ffi::Guidance, tecs.steady_accel_mps2);
+    size!("nuthkolla_answer", ffi::Answer);
+    at!("nuthkolla_answer.refusal", ffi::Answer, refusal);
+    at!("nuthkolla_answer.field", ffi::Answer, field);
+    at!("nuthkolla_answer.setpoint", ffi::Answer, setpoint);
+    at!("nuthkolla_answer.lateral", ffi::Answer, lateral);
+    at!("nuthkolla_answer.vertical", ffi::Answer, vertical);
+    at!("nuthkolla_answer.roll", ffi::Answer, roll);
+    at!("nuthkolla_answer.pitch", ffi::Answer, pitch);
+    at!("nuthkolla_answer.yaw", ffi::Answer, yaw);
+    at!("nuthkolla_answer.thrust", ffi::Answer, thrust);
+    at!("nuthkolla_answer.next", ffi::Answer, next);
+    size!("nuthkolla_call", ffi::Call);
+    at!("nuthkolla_call.kind", ffi::Call, kind);
+    at!("nuthkolla_call.regime", ffi::Call, regime);
+    at!("nuthkolla_call.dt", ffi::Call, dt);
+    element!("nuthkolla_call.first", ffi::Call, numbers, 0);
+    element!("nuthkolla_call.second", ffi::Call, numbers, 1);
+    element!("nuthkolla_call.third", ffi::Call, numbers, 2);
+    element!("nuthkolla_call.fourth", ffi::Call, numbers, 3);
+    element!("nuthkolla_call.waypoint_north_m", ffi::Call, waypoint, 0);
+    element!("nuthkolla_call.waypoint_east_m", ffi::Call, waypoint, 1);
+    at!("nuthkolla_call.has_leg", ffi::Call, has_leg);
+    element!("nuthkolla_call.leg_north_mps", ffi::Call, leg, 0);
+    element!("nuthkolla_call.leg_east_mps", ffi::Call, leg, 1);
+    at!("nuthkolla_call.altitude_m", ffi::Call, altitude_m);
+    at!("nuthkolla_call.cruise_speed_mps", ffi::Call, cruise_speed_mps);
+    at!("nuthkolla_call.position_m", ffi::Call, position_m);
+    at!("nuthkolla_call.velocity_mps", ffi::Call, velocity_mps);
+    at!("nuthkolla_call.roll_rad", ffi::Call, roll_rad);
+    at!("nuthkolla_call.has_airspeed", ffi::Call, has_airspeed);
+    at!("nuthkolla_call.airspeed_mps", ffi::Call, airspeed_mps);
+    at!("nuthkolla_call.has_cap", ffi::Call, has_cap);
+    at!("nuthkolla_call.pitch_cap_rad", ffi::Call, pitch_cap_rad);
+    size!("nuthkolla_place", ffi::Place);
+    at!("nuthkolla_place.refusal", ffi::Place, refusal);
+    at!("nuthkolla_place.next", ffi::Place, next);
+    size!("nuthkolla_config_read", ffi::ConfigRead);
+    at!("nuthkolla_config_read.refusal", ffi::ConfigRead, refusal);
+    at!("nuthkolla_config_read.next", ffi::ConfigRead, next);
+    at!("nuthkolla_config_read.config", ffi::ConfigRead, config);
+    println!("NUTHKOLLA_CALL {}", ffi::CALL);
+    println!("NUTHKOLLA_SET_CONFIG {}", ffi::SET_CONFIG);
+    println!("NUTHKOLLA_NEW {}", ffi::NEW);
+    println!("NUTHKOLLA_CALL_BYTES {}", CALL_BYTES);
+    println!("NUTHKOLLA_CONFIG_BYTES {}", CONFIG_BYTES);
+}

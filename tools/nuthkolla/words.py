@@ -1,0 +1,107 @@
+"""Words for people: refusals, and setpoints in degrees with the sides of a boat."""
+
+import math
+
+from nuthkolla.numbers import to_text, value
+from nuthkolla.record import REFUSALS as RECORD_REFUSALS
+from nuthkolla.record import MOST_CALLS
+from nuthkolla.settings import SETTINGS
+
+REFUSED = {
+    2: "the time step is not finite or not above 0",
+    3: "the cap is below 0",
+    4: "a number would not be finite",
+}
+STOPPED = RECORD_REFUSALS | {9: f"there is input left after call {MOST_CALLS}"}
+
+
+def refused_words(number):
+    return f"refused, {REFUSED[number]} ({number})"
+
+
+def stopped_words(number):
+    return f"stopped, {STOPPED[number]} ({number})"
+
+
+def setting_words(field, configuration):
+    """Why a configuration is refused at a field."""
+    setting = SETTINGS[field - 1]
+    unit = f" {setting.unit}" if setting.unit else ""
+    given = to_text(configuration[setting.name])
+    return f"field {field}, {setting.name}, has to be {setting.passes}; it is {given}{unit}"
+
+
+# ---- numbers
+
+
+def shown(number, unit):
+    """A size with one decimal; one that is very great with few digits."""
+    return f"{number:.1f}{unit}" if number < 1e6 else f"{number:.3g}{unit}"
+
+
+def turned(bits, unit, level, below, above, scale=math.degrees):
+    """A size with its side: level where it shows as zero, or the words of its sign's side."""
+    number = value(bits)
+    if math.isnan(number):
+        return "not a number"
+    size, side = abs(scale(number)), below if number < 0 else above
+    if math.isinf(size):
+        return f"infinite {side}"
+    return level if shown(size, unit) == shown(0.0, unit) else f"{shown(size, unit)} {side}"
+
+
+def bank_words(bits):
+    """Roll, right positive."""
+    words = turned(bits, "°", "level", "to port", "to starboard")
+    return "wings level" if words == "level" else f"bank {words}"
+
+
+def nose_words(bits):
+    """Pitch, nose up positive."""
+    return "nose " + turned(bits, "°", "level", "down", "up")
+
+
+def thrust_words(bits):
+    share = value(bits)
+    return f"thrust {share * 100:.0f} %" if math.isfinite(share) else "thrust not a number"
+
+
+def plane_words(numbers):
+    roll, pitch, thrust = numbers
+    return ", ".join([bank_words(roll), nose_words(pitch), thrust_words(thrust)])
+
+
+def rate_words(numbers):
+    roll, pitch, yaw, thrust = numbers
+    return ", ".join(
+        [
+            "rolling " + turned(roll, "°/s", "not at all", "to port", "to starboard"),
+            "pitching " + turned(pitch, "°/s", "not at all", "down", "up"),
+            "yawing " + turned(yaw, "°/s", "not at all", "to port", "to starboard"),
+            thrust_words(thrust),
+        ]
+    )
+
+
+def answer_words(answer):
+    """An answer without its laws; empty for a prime, which has none."""
+    if answer.kind == "refused":
+        return refused_words(answer.refusal)
+    if answer.kind == "rate":
+        return rate_words(answer.numbers)
+    return plane_words(answer.numbers) if answer.numbers else ""
+
+
+def call_words(call, answer):
+    """A call by its kind, and its answer."""
+    head = ", ".join([call.kind, *([" ".join(answer.laws)] if answer.laws else [])])
+    words = answer_words(answer)
+    return f"{head}: {words}" if words else head
+
+
+def ending_words(ending, configuration):
+    """The line that ended a replay early: its words as the desk program prints them."""
+    if ending[:2] == ["config", "refused"]:
+        return f"configuration refused: {setting_words(int(ending[2]), configuration)}"
+    name = "configuration" if ending[0] == "config" else f"call {ending[0]}"
+    return f"{name} {stopped_words(int(ending[2]))}"
