@@ -1,5 +1,6 @@
 -- Laws about the definitions that the contracts name, for this crate and those above it.
 pub mod Bounds
+pub mod Within
 mod Remainder
 pub mod Rounding
 pub mod Signs

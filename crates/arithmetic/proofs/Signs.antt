@@ -2,12 +2,12 @@
 -- 0x80000000 is 2 ^ 31, 0x100000000 is 2 ^ 32.
 use mathlib.Core.Path.{_≡_, refl, sym, ap, _∙_, subst}
 use mathlib.Core.Bool.{Bool, true, false, cond, not}
-use Prim.Native.Nat.{ℕ, zero, suc, _+_, _*_, _%_, _<_, _≤_}
+use Prim.Native.Nat.{ℕ, zero, suc, _+_, _*_, _/_, _%_, _<_, _≤_}
 use native.Mathlib.Omega.{arith}
-use lib.Dec.{T, leb}
+use lib.Dec.{T, leb, leb→le, nleb→lt}
 use lib.IntN.{ℤ}
 use borrow.Author.Tests.{le-leb, lt-leb}
-use lib.Ieee.{Float, nan, inf, fin, Format, binary32, top, fits, isNan, ofBits, toBits}
+use lib.Ieee.{Float, nan, inf, fin, Format, binary32, top, fits, isNan, neg, ofBits, toBits}
 use lib.Ieee.Bits.{ofBits-toBits, toBits-lt}
 use Rattle.arithmetic.specs.Order.{size, negative}
 use Rattle.arithmetic.proofs.Bounds.{never′}
@@ -74,3 +74,61 @@ size-number (fin s m e) n = refl
 
 pub is-number : (v : Float) → isNan v ≡ false → T (not (isNan v))
 is-number v n = subst (λ (b : Bool). T (not b)) (sym n) tt
+
+-- ---- a sign bit added to a number's bits, modulo 2 ^ 32
+
+sign-part : (x : ℕ) → x < 0x100000000 → x / 0x80000000 * 0x80000000 ≡ cond (leb 0x80000000 x) 0x80000000 0
+sign-part x h = go (leb 0x80000000 x) (leb→le 0x80000000 x) (nleb→lt 0x80000000 x)
+  where
+    go : (b : Bool) → (T b → 0x80000000 ≤ x) → (T (not b) → x < 0x80000000) → x / 0x80000000 * 0x80000000 ≡ cond b 0x80000000 0
+    go true p q = let l = p tt in omega arith
+    go false p q = let l = q tt in omega arith
+
+turned-over : (s : Bool) (x : ℕ) → x < 0x80000000 → (cond s 0x80000000 0 + x + 0x80000000) % 0x100000000 ≡ cond (not s) 0x80000000 0 + x
+turned-over true x h = omega arith
+turned-over false x h = omega arith
+
+infinite-neg : (s : Bool) → ofBits binary32 ((toBits binary32 (inf s) + 0x80000000) % 0x100000000) ≡ inf (not s)
+unfolding ofBits toBits
+infinite-neg true = refl
+infinite-neg false = refl
+
+flipped : (a : Float) → T (fits binary32 a) → isNan a ≡ false → ofBits binary32 ((toBits binary32 a + 0x80000000) % 0x100000000) ≡ neg a
+unfolding isNan neg
+flipped nan h n = never′ n
+flipped (inf s) h n = infinite-neg s
+flipped (fin s m e) h n =
+    ap (λ (b : ℕ). ofBits binary32 ((b + 0x80000000) % 0x100000000)) (sign-apart s m e)
+    ∙ ap (ofBits binary32) (turned-over s (toBits binary32 (fin false m e)) (below-sign s m e h) ∙ sym (sign-apart (not s) m e))
+    ∙ ofBits-toBits binary32 (fin (not s) m e) (any-sign s (not s) m e h)
+
+kept : (a : Float) → T (fits binary32 a) → ofBits binary32 ((toBits binary32 a + 0) % 0x100000000) ≡ a
+kept a h =
+    let l = toBits-lt binary32 a h in
+    let e : (toBits binary32 a + 0) % 0x100000000 ≡ toBits binary32 a = omega arith in
+    ap (ofBits binary32) e ∙ ofBits-toBits binary32 a h
+
+pub signed-bits : (v a : Float) → T (fits binary32 v) → T (fits binary32 a) → isNan v ≡ false → isNan a ≡ false →
+    ofBits binary32 ((toBits binary32 a + toBits binary32 v / 0x80000000 * 0x80000000) % 0x100000000) ≡ cond (negative v) (neg a) a
+signed-bits v a h k n p =
+    ap (λ (x : ℕ). ofBits binary32 ((toBits binary32 a + x) % 0x100000000))
+    (sign-part (toBits binary32 v) (toBits-lt binary32 v h) ∙ ap (λ (b : Bool). cond b 0x80000000 0) (sign-bit v h n))
+    ∙ go (negative v)
+  where
+    go : (b : Bool) → ofBits binary32 ((toBits binary32 a + cond b 0x80000000 0) % 0x100000000) ≡ cond b (neg a) a
+    go true = flipped a k p
+    go false = kept a k
+
+pub signed-number : (b : Bool) (a : Float) → isNan a ≡ false → isNan (cond b (neg a) a) ≡ false
+unfolding isNan neg
+signed-number b nan n = never′ n
+signed-number true (inf s) n = refl
+signed-number false (inf s) n = refl
+signed-number true (fin s m e) n = refl
+signed-number false (fin s m e) n = refl
+
+pub size-unsigned : (v : Float) → negative (size v) ≡ false
+unfolding size negative
+size-unsigned nan = refl
+size-unsigned (inf s) = refl
+size-unsigned (fin s m e) = refl

@@ -129,15 +129,18 @@ pub fn arctangent_of_size(u: f32) -> f32
     }
 }
 
-// Arctangent: NaN and zeros as they are; negated for v < 0.
+// Arctangent. The sign bit, 2^31, is taken off the number's bits and added to the result's, modulo 2^32, so that nothing branches
+// on the sign nor on a zero. NaN is set apart, since its bits are not defined.
 pub fn arctangent(v: f32) -> f32
     ensures { λ r. ⌜ r ≡ spec.arctangent v ⌝ }
 {
-    if (v != v) | (v == 0.0) {
+    if v != v {
         return v;
     }
-    let a = arctangent_of_size(size(v));
-    if v < 0.0 { -a } else { a }
+    let b: u32 = f32::to_bits(v);
+    let sign: u32 = b / 0x8000_0000 * 0x8000_0000;
+    let a = arctangent_of_size(f32::from_bits(b % 0x8000_0000));
+    f32::from_bits(((f32::to_bits(a) as u64 + sign as u64) % 0x1_0000_0000) as u32)
 }
 
 pub fn arcsine(v: f32) -> f32
