@@ -123,7 +123,7 @@ enum {
 };
 
 enum { NUTHKOLLA_NO_SETPOINT = 0, NUTHKOLLA_PLANE = 1, NUTHKOLLA_PLANE_RATE = 2 };
-enum { NUTHKOLLA_TRACK = 1, NUTHKOLLA_LOITER = 2 };
+enum { NUTHKOLLA_TRACK = 1, NUTHKOLLA_LOITER = 2, NUTHKOLLA_IDLE = 3 };
 enum { NUTHKOLLA_ENERGY = 1, NUTHKOLLA_HOLD = 2, NUTHKOLLA_FALLBACK = 3 };
 enum { NUTHKOLLA_UNKNOWN = 255 };
 
@@ -131,7 +131,7 @@ typedef struct nuthkolla_answer {
     uint32_t refusal;  /* 0, or the refusal's number */
     uint32_t field;    /* of refusal 1 the failing field's number, 1 to 33, else 0 */
     uint32_t setpoint; /* 0 none, 1 plane setpoint, 2 plane rate setpoint */
-    uint32_t lateral;  /* of a waypoint 1 track, 2 loiter; else 0 */
+    uint32_t lateral;  /* of a waypoint 1 track, 2 loiter, 3 idle (no leg to speak of, or too slow); else 0 */
     uint32_t vertical; /* of a waypoint 1 energy, 2 hold, 3 fallback; else 0 */
     float roll;        /* rad; of a plane rate setpoint rad/s */
     float pitch;       /* rad; of a plane rate setpoint rad/s */

@@ -114,6 +114,8 @@ impl Record {
     fn laws(&self) -> (u32, u32) {
         let n = &self.n;
         let track = self.stands(9) && n[9].is_finite() && n[10].is_finite();
+        let speed = Vec2::new(n[16], n[17]).norm();
+        let idle = track && Vec2::new(n[9], n[10]).norm() <= 1e-6 || speed < 1.0 || speed.is_nan();
         let vertical = if !(self.stands(20) && n[12] > 0.0 && n[20] >= 0.0) {
             3
         } else if [n[11], n[12], n[20], n[15], n[18]].iter().all(|v| v.is_finite()) {
@@ -121,7 +123,14 @@ impl Record {
         } else {
             2
         };
-        (if track { 1 } else { 2 }, vertical)
+        let lateral = if idle {
+            3
+        } else if track {
+            1
+        } else {
+            2
+        };
+        (lateral, vertical)
     }
 }
 

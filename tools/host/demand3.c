@@ -80,9 +80,16 @@ static uint32_t vertical_law(const nuthkolla_call *c)
     return finite ? NUTHKOLLA_ENERGY : NUTHKOLLA_HOLD;
 }
 
+static float length(float x, float y) { return sqrtf(x * x + y * y); }
+
+/* Idle by document 02's words, else track with a finite leg. */
 static uint32_t lateral_law(const nuthkolla_call *c)
 {
-    return c->has_leg && isfinite(c->leg_north_mps) && isfinite(c->leg_east_mps) ? NUTHKOLLA_TRACK : NUTHKOLLA_LOITER;
+    int leg = c->has_leg && isfinite(c->leg_north_mps) && isfinite(c->leg_east_mps);
+    float speed = length(c->velocity_mps.x, c->velocity_mps.y);
+    if ((leg && length(c->leg_north_mps, c->leg_east_mps) <= 1e-6f) || speed < 1 || isnan(speed))
+        return NUTHKOLLA_IDLE;
+    return leg ? NUTHKOLLA_TRACK : NUTHKOLLA_LOITER;
 }
 
 /* Underspeed after an accepted call. */

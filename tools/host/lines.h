@@ -17,7 +17,7 @@ static uint32_t bits(float x)
 
 static void print_answer(FILE *to, unsigned long number, const nuthkolla_answer *a)
 {
-    static const char *const lateral[] = {"", "track", "loiter"};
+    static const char *const lateral[] = {"", "track", "loiter", "idle"};
     static const char *const vertical[] = {"", "energy", "hold", "fallback"};
     if (a->refusal != 0)
         fprintf(to, "%lu refused %u\n", number, a->refusal);

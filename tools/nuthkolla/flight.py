@@ -29,6 +29,11 @@ class Moment(NamedTuple):
         """energy, hold or fallback; none for what is no accepted waypoint call."""
         return self.answer.laws[1] if self.answer.laws else None
 
+    @property
+    def idle(self):
+        """An accepted waypoint call that flies neither leg nor circle."""
+        return self.answer.laws[:1] == ("idle",)
+
     def number_of(self, name, at=0):
         """A finite number of the call; none where it has none."""
         bits = self.call.numbers.get(name, ())[at : at + 1]
@@ -83,10 +88,10 @@ def aim_of(call):
 
 
 def aims(flown):
-    """Each aim in the order of its first call, with the places from which it was flown."""
+    """Each aim in the order of its first call, with the places from which it was flown; an idle call flies to none."""
     found = {}
     for moment in flown:
-        if moment.call.kind == "waypoint":
+        if moment.call.kind == "waypoint" and not moment.idle:
             aim = aim_of(moment.call)
             if aim:
                 found.setdefault(aim, [])

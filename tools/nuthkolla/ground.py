@@ -167,8 +167,10 @@ def draw_heads(group, part):
 
 
 def draw_point(group, moment, ground):
-    """The point of an accepted waypoint call, by its law."""
+    """The point of an accepted waypoint call, by its law; a ring round it where it is idle."""
     x, y = ground(moment.place)
+    if moment.idle:
+        add(group, "circle", "ring idle", cx=x, cy=y, r=6)
     if moment.law == "hold":
         square(group, "point hold", x, y, 3)
     elif moment.law == "fallback":
@@ -258,7 +260,8 @@ def told_counts(ground):
     """How many points and refused places are told and not drawn, for whoever counts them."""
     told = [m for m in ground.flown if (m.law or m.refused) and not ground.within(m.place)]
     counts = collections.Counter(m.law or "refused" for m in told)
-    return {f"data_{name}": counts[name] for name in ("energy", "hold", "fallback", "refused")}
+    counts["idle"] = sum(m.idle for m in told)
+    return {f"data_{name}": counts[name] for name in ("energy", "hold", "fallback", "idle", "refused")}
 
 
 def draw_notes(page, ground, stopped, left, top):

@@ -21,8 +21,10 @@ def summary(flown):
     other = len(flown) - refused - sum(counts.values())
     time = flown[-1].time
     words = [f"{len(flown)} call{'s' * (len(flown) > 1)} in {f'{time:.0f}' if time < 1e6 else f'{time:g}'} s"]
+    idle = sum(m.idle for m in flown)
     laws = f"{counts['energy']} energy, {counts['fallback']} fallback, {counts['hold']} hold"
-    words += [f"waypoint answers: {laws}", f"{other} other answers", f"{refused} refused"]
+    words += [f"waypoint answers: {laws}" + (f", {idle} of them idle" if idle else "")]
+    words += [f"{other} other answers", f"{refused} refused"]
     return "; ".join(words)
 
 
@@ -42,6 +44,7 @@ def legend_items(flown):
         (lambda g, x, y: add(g, "circle", "energy", cx=x + 14, cy=y, r=2.5), "waypoint call, energy law"),
         (lambda g, x, y: add(g, "circle", "fallback", cx=x + 14, cy=y, r=3), "fallback: no usable airspeed"),
         (lambda g, x, y: square(g, "hold", x + 14, y, 3.5), "hold: trim pitch, cruise thrust (grey)"),
+        (lambda g, x, y: add(g, "circle", "ring", cx=x + 14, cy=y, r=6), "idle: ground speed below 1 m/s, or a leg without length"),
         (lambda g, x, y: head(g, "way", (x + 19.0, y), (1.0, 0.0), 10), "direction of flight"),
         (lambda g, x, y: line(g, "limit", x, y, x + 28, y), "limits of waypoint answers"),
         (lambda g, x, y: line(g, "demand", x, y, x + 28, y), "height, cruise speed demanded"),

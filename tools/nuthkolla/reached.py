@@ -3,7 +3,7 @@
 from collections import Counter
 
 # What can stand in a line of answers, and of records.
-WAYPOINTS = [f"{lateral} {vertical}" for lateral in ("track", "loiter") for vertical in ("energy", "hold", "fallback")]
+WAYPOINTS = [f"{lateral} {vertical}" for lateral in ("track", "loiter", "idle") for vertical in ("energy", "hold", "fallback")]
 ANSWERS = {
     **{laws: f" {laws} " for laws in WAYPOINTS},
     "plane": " plane ",
@@ -35,6 +35,7 @@ SECTIONS = {
         "energy state kept",
         "nothing to keep",
     ],
+    "idle": ["short leg", *(f"ground speed {speed}, {leg}" for speed in ("NaN", "below 1") for leg in ("on a leg", "no leg"))],
     "legs": ["finite", "finite, length overflows", "finite, length up to 1e-6", "none", "not finite"],
     "records": [*(f"call stopped {number}" for number in (5, 6, 7)), *(f"configuration stopped {number}" for number in (5, 6))],
 }

@@ -229,27 +229,32 @@ def draw_refusal_marks(page, column, y):
         label(page, "ink small", places[-1] + 8, y + 4, text)
 
 
-def draw_law_marks(page, column, lower):
+def draw_law_marks(page, column, lower, idle):
+    """lower, idle: the places of the rows; the second is none where no call is idle."""
     for moment in column.flown:
         x = column.time(moment.time)
         if moment.law == "hold":
             square(page, "mark hold", x, lower, 3)
         elif moment.law == "fallback":
             add(page, "circle", "mark fallback", cx=x, cy=lower, r=3)
+        if moment.idle:
+            add(page, "circle", "mark idle ring", cx=x, cy=idle, r=4)
 
 
 def draw_band(page, column, top):
-    """A mark for each refused call, each hold and each fallback; the place of its lower edge."""
-    names = ["refused", "held, fell back"]
+    """A mark for each refused call, each hold, each fallback and each idle call; the place of its lower edge."""
+    some_idle = any(moment.idle for moment in column.flown)
+    names = ["refused", "held, fell back", *["idle"] * some_idle]
     rows = [top + 13 + 19 * n for n in range(len(names))]
     box = column.box(top, 19 * len(names) + 6)
-    label(page, "ink name", column.left, top - 12, "Calls that were refused, held or fell back")
+    words = "refused, held, fell back or idle" if some_idle else "refused, held or fell back"
+    label(page, "ink name", column.left, top - 12, f"Calls that were {words}")
     for name, y in zip(names, rows):
         label(page, "soft end", column.left - 7, y + 4, name)
     for y in rows[1:]:
         line(page, "grid", column.left, y - 10, column.right, y - 10)
     draw_refusal_marks(page, column, rows[0])
-    draw_law_marks(page, column, rows[1])
+    draw_law_marks(page, column, rows[1], rows[-1])
     frame(page, "frame", box)
     return box[3]
 

@@ -22,7 +22,7 @@ STROKES = {
     ".fallback": "fallback",
     ".hold": "hold",
     ".refused": "refused",
-    ".frame, .tick": "soft",
+    ".frame, .tick, .ring": "soft",
     ".limit": "ink",
     ".over": "paper",
 }
@@ -57,7 +57,7 @@ text { font-family: "DejaVu Sans", Verdana, Arial, sans-serif; font-size: 13px; 
 .over { paint-order: stroke; stroke-width: 3; stroke-linejoin: round; }
 .middle { text-anchor: middle; }
 .end { text-anchor: end; }
-.frame, .grid, .tick, .aim, .line, .limit, .demand, .mark, .place { fill: none; }
+.frame, .grid, .tick, .aim, .line, .limit, .demand, .mark, .place, .ring { fill: none; }
 .frame, .grid, .tick { stroke-width: 1; }
 .line { stroke-width: 1.6; stroke-linejoin: round; }
 .track { stroke-width: 1; }
@@ -68,6 +68,7 @@ text { font-family: "DejaVu Sans", Verdana, Arial, sans-serif; font-size: 13px; 
 .refused { stroke-width: 2; fill: none; }
 .fallback { stroke-width: 1.4; }
 .hold { stroke-width: 1; }
+.ring { stroke-width: 1; stroke-dasharray: 3 2; }
 .span { stroke: none; }
 .through { stroke-width: 1; stroke-dasharray: 1 4; }
 """

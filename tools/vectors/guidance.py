@@ -15,7 +15,7 @@ A row is 53 u32 words, low byte first. Numbers are their bits, every NaN 7fc0000
             position; velocity; roll; airspeed (1 if present, number); cap (likewise)
     25, 26  of a call: the mode report after it: mode (1 plane), refusal (0 none, 1 unsupported)
     34      the refusal's number, of 7 and 8 the failing field's, or 0
-    35, 36  laws: 1 track, 2 loiter; 1 energy, 2 hold, 3 fallback; 0 none
+    35, 36  laws: 1 track, 2 loiter, 3 idle; 1 energy, 2 hold, 3 fallback; 0 none
     37      1 plane setpoint, 2 rate setpoint, 0 none
     38..41  the setpoint's numbers
     42..52  the state after it: requested regime; altitude integral; seeded; slewed height, height, airspeed demand; filtered
@@ -30,19 +30,21 @@ CRATE = HERE.parent.parent / "crates/guidance_cases"
 FIXED = HERE.parent / "oracle/fixed"
 WORDS = 53
 PRIME, WAYPOINT, SET_CONFIG, NEW = 0, 3, 7, 8
+sys.path.insert(0, str(FIXED))
+import by_hand  # noqa: E402
 
-LATERAL = {"track": 1, "loiter": 2}
+LATERAL = {"track": 1, "loiter": 2, "idle": 3}
 VERTICAL = {"energy": 1, "hold": 2, "fallback": 3}
 FRESH = [1] + [0] * 10
 
 # The lines of calls, by file and call number.
 FIGURES = {
-    ("airspeed-1e30", 1): "loiter energy 00000000 0f181e3a 3e4ccccd",
+    ("airspeed-1e30", 1): "idle energy 00000000 0f181e3a 3e4ccccd",
     ("airspeed-1e30-weight-0", 1): "refused 4",
     ("desk-example", 1): "plane 00000000 00000000 00000000",
     ("desk-example", 2): "plane 3f800000 bf000000 3f800000",
     ("desk-example", 3): "refused 2",
-    ("desk-example", 4): "loiter hold 00000000 00000000 3f000000",
+    ("desk-example", 4): "idle hold 00000000 00000000 3f000000",
     ("ties-by-hand", 1): "track fallback 80000000 00000000 3f000000",  # on the line and along it
     ("ties-by-hand", 2): "track fallback bf490fdb 00000000 3f000000",  # straight back on a north leg
     ("ties-by-hand", 4): "track fallback 3f490fdb 00000000 3f000000",  # straight back on an east leg
@@ -145,6 +147,8 @@ def recording(path, is_list):
     config, at = configuration(data, 0)
     rows = [row([NEW] + config, [0] * 8, FRESH)]
     for number, (line, after) in enumerate(zip(lines, states, strict=True), 1):
+        if name == "idle" and line.split()[1] != by_hand.IDLE[number - 1][0]:
+            sys.exit(f"guidance.py: {name} has '{line}' where {by_hand.IDLE[number - 1]} is known")
         figure = FIGURES.get((name, number))
         if figure is not None and line != f"{number} {figure}":
             sys.exit(f"guidance.py: {name} has '{line}' where '{figure}' is known")
@@ -194,7 +198,7 @@ def past_the_limit():
     assert bits(pitch) == bits(-0.43633235) and number(down) == number(bits(0.43633232))
     config = [trim if n == 6 else default for n, default in enumerate(defaults())]
     call_words = [WAYPOINT, 1, bits(1.0)] + [0] * 13 + [bits(1000.0)]
-    answered = [0, LATERAL["loiter"], VERTICAL["fallback"], 1, 0, bits(pitch), bits(0.5 + share), 0]
+    answered = [0, LATERAL["idle"], VERTICAL["fallback"], 1, 0, bits(pitch), bits(0.5 + share), 0]
     return "past_the_limit", [row([NEW] + config, [0] * 8, FRESH), row(call_words, answered, FRESH)]
 
 

@@ -17,6 +17,7 @@ fn line(answer: &Answer) -> String {
             let lateral = match laws.lateral {
                 LateralLaw::Track => "track",
                 LateralLaw::Loiter => "loiter",
+                LateralLaw::Idle => "idle",
             };
             let vertical = match laws.vertical {
                 VerticalLaw::Energy => "energy",

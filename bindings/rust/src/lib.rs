@@ -183,6 +183,7 @@ fn laws_of(answer: &ffi::Answer) -> Option<Laws> {
     let lateral = match answer.lateral {
         1 => LateralLaw::Track,
         2 => LateralLaw::Loiter,
+        3 => LateralLaw::Idle,
         _ => return None,
     };
     let vertical = match answer.vertical {

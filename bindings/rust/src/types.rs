@@ -289,6 +289,8 @@ pub enum Setpoint {
 pub enum LateralLaw {
     Track,
     Loiter,
+    /// A leg of length up to 1e-6, or a ground speed below 1.0 or NaN: the plane flies neither leg nor circle.
+    Idle,
 }
 
 /// The law that gave a waypoint its pitch and thrust.

@@ -35,7 +35,7 @@ use Rattle.laws.specs.declared.types.ControlInput.the-variants as Input
 use Rattle.laws.specs.declared.types.FlightRegime.{FlightRegime}
 use Rattle.laws.specs.declared.types.VehicleState.{VehicleState}
 use Rattle.laws.specs.declared.types.Setpoint.{Setpoint}
-use Rattle.guidance.specs.Plane.{northEast, orZero, capped, topThrust, limitsOf, inputs, rollOf, heightError, fallback, vertical, verticalLaw, lateralLaw, finiteState, allFinite, fresh, cleared, primed, withConfig, configured, badTimeStep, badCap, refusal, flown, settled, commanded, waypoint, obeyed, guided}
+use Rattle.guidance.specs.Plane.{northEast, orZero, capped, topThrust, limitsOf, inputs, rollOf, heightError, fallback, vertical, verticalLaw, steered, finiteState, allFinite, fresh, cleared, primed, withConfig, configured, badTimeStep, badCap, refusal, flown, settled, commanded, waypoint, obeyed, guided}
 use Rattle.claims.specs.Calls.{Call, guide, prime, setConfig, Reply, answered, done, field, Outcome, answeredBy, perform, refused, replies}
 use Rattle.claims.specs.Limits.{InForce, atStart, underspeedAt, underspeedBy, underspeedAfter, inForceAfter, Between, InSpan, EnergyLimits, HoldLimits, Corrected, FallbackPitch, FallbackLimits, VerticalLimits, WaypointLimits, Obeys, AllObey}
 use Rattle.guidance.specs.declared.plane.PlaneGuidance.{PlaneGuidance}
@@ -294,8 +294,7 @@ module _ (g : PlaneGuidance) (dt : Float) (regime : FlightRegime) (s : VehicleSt
   stands-flown : Valid (g .config) → (w : WaypointCommand) → badCap cap ≡ false →
       allFinite (vertical (verticalLaw dt w s) (g .config) (g .altitude) (g .tecs) dt w s cap) ≡ true →
       StandsBy g (guide dt regime (Input.Waypoint w) s cap)
-      (flown g regime (record { lateral = lateralLaw w; vertical = verticalLaw dt w s }) (rollOf (g .config) w s)
-      (vertical (verticalLaw dt w s) (g .config) (g .altitude) (g .tecs) dt w s cap))
+      (flown g regime (steered (g .config) w s) (verticalLaw dt w s) (vertical (verticalLaw dt w s) (g .config) (g .altitude) (g .tecs) dt w s cap))
   stands-flown v w q e =
       let r = vertical (verticalLaw dt w s) (g .config) (g .altitude) (g .tecs) dt w s cap in
       record {

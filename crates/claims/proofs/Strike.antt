@@ -16,12 +16,12 @@ use Rattle.laws.specs.declared.types.ControlInput.the-variants as Input
 use Rattle.laws.specs.declared.types.FlightRegime.{FlightRegime}
 use Rattle.laws.specs.declared.types.VehicleState.{VehicleState}
 use Rattle.laws.specs.declared.types.Setpoint.{Setpoint}
-use Rattle.guidance.specs.Plane.{isWaypoint, noIntegral, fresh, cleared, primed, withConfig, configured, badTimeStep, badCap, refusal, allFinite, vertical, verticalLaw, lateralLaw, rollOf, settled, commanded, waypoint, obeyed, guided}
+use Rattle.guidance.specs.Plane.{isWaypoint, noIntegral, fresh, cleared, primed, withConfig, configured, badTimeStep, badCap, refusal, allFinite, vertical, verticalLaw, steered, settled, commanded, waypoint, obeyed, guided}
 use Rattle.claims.specs.Calls.{Call, guide, prime, setConfig, Reply, answered, perform, refused, replies, after, refusals, lawIs, isHold, isFallback, holds, fellBack, struck, strikes, unmarked, startsFresh, settingsOf, freshWith}
 use Rattle.guidance.specs.declared.plane.PlaneGuidance.{PlaneGuidance}
 use Rattle.guidance.specs.declared.plane.VerticalLaw.{VerticalLaw}
 use Rattle.guidance.specs.declared.plane.VerticalLaw.the-variants.{Energy, Hold, Fallback}
-use Rattle.guidance.specs.declared.plane.Laws.{Laws}
+use Rattle.guidance.specs.declared.plane.Steered.{Steered}
 use Rattle.guidance.specs.declared.plane.Guided.{Guided}
 use Rattle.claims.proofs.Alike.{Alike, alike-refl, alike-sym, alike-trans, AlikeOutcome, perform-alike, replies-alike}
 
@@ -71,10 +71,10 @@ module _ (g : PlaneGuidance) (dt : Float) (regime : FlightRegime) (s : VehicleSt
     };
   }
 
-  left-settled : (w : WaypointCommand) (laws : Laws) (roll : Float) (l : VerticalLaw) → verticalLaw dt w s ≡ l →
-      LeftBy g (guide dt regime (Input.Waypoint w) s cap) (settled g regime laws roll (vertical l (g .config) (g .altitude) (g .tecs) dt w s cap))
+  left-settled : (w : WaypointCommand) (lateral : Steered) (law l : VerticalLaw) → verticalLaw dt w s ≡ l →
+      LeftBy g (guide dt regime (Input.Waypoint w) s cap) (settled g regime lateral law (vertical l (g .config) (g .altitude) (g .tecs) dt w s cap))
   unfolding vertical hold
-  left-settled w laws roll Energy is =
+  left-settled w lateral law Energy is =
       either (allFinite (vertical Energy (g .config) (g .altitude) (g .tecs) dt w s cap))
       (record {
         is = record {
@@ -85,7 +85,7 @@ module _ (g : PlaneGuidance) (dt : Float) (regime : FlightRegime) (s : VehicleSt
         };
       })
       (left-refusal g _ 4 refl)
-  left-settled w laws roll Hold is =
+  left-settled w lateral law Hold is =
       either (allFinite (vertical Hold (g .config) (g .altitude) (g .tecs) dt w s cap))
       (record {
         is = record {
@@ -96,7 +96,7 @@ module _ (g : PlaneGuidance) (dt : Float) (regime : FlightRegime) (s : VehicleSt
         };
       })
       (left-refusal g _ 4 refl)
-  left-settled w laws roll Fallback is =
+  left-settled w lateral law Fallback is =
       either (allFinite (vertical Fallback (g .config) (g .altitude) (g .tecs) dt w s cap))
       (record {
         is = record {
@@ -112,7 +112,7 @@ module _ (g : PlaneGuidance) (dt : Float) (regime : FlightRegime) (s : VehicleSt
   unfolding waypoint
   left-waypoint w =
       either (badCap cap) (left-refusal g _ 3 refl)
-      (left-settled w (record { lateral = lateralLaw w; vertical = verticalLaw dt w s }) (rollOf (g .config) w s) (verticalLaw dt w s) refl)
+      (left-settled w (steered (g .config) w s) (verticalLaw dt w s) (verticalLaw dt w s) refl)
 
   left-obeyed : (input : ControlInput) → LeftBy g (guide dt regime input s cap) (obeyed g dt regime input s cap)
   unfolding obeyed

@@ -114,7 +114,7 @@ VerticalLimits Fallback i w s cap pitch thrust = FallbackLimits (i .config) w s 
 pub record WaypointLimits (i : InForce) (dt : Float) (w : WaypointCommand) (s : VehicleState) (cap : OptionF32) (laws : Laws) (roll pitch thrust : Float) : Type 0 where
   pub roll-within : Between (neg (i .config .«max_bank_rad»)) roll (i .config .«max_bank_rad»)
   pub vertical-within : VerticalLimits (verticalLaw dt w s) i w s cap pitch thrust
-  pub lateral-name : laws .lateral ≡ lateralLaw w
+  pub lateral-name : laws .lateral ≡ lateralLaw w s
   pub vertical-name : laws .vertical ≡ verticalLaw dt w s
 
 abbrev pub SetpointLimits : InForce → Float → WaypointCommand → VehicleState → OptionF32 → Laws → Setpoint → Type 0

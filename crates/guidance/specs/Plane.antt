@@ -11,7 +11,7 @@ use Rattle.arithmetic.specs.declared.vector.Vec2.{Vec2}
 use Rattle.laws.specs.Config.{checkPositive, validate}
 use Rattle.laws.specs.Math.{clampSymmetric, saturateUnit, saturateThrottle}
 use Rattle.laws.specs.Types.{validAirspeed}
-use Rattle.laws.specs.Navigation.{finiteLeg, lateralAccel, bankForAccel, piStep}
+use Rattle.laws.specs.Navigation.{finiteLeg, lateralAccel, idle, bankForAccel, piStep}
 use Rattle.laws.specs.Tecs.{reset, allInputsFinite, hold, energyStep, flag}
 use Rattle.laws.specs.declared.config.PlaneGuidanceConfig.{PlaneGuidanceConfig}
 use Rattle.laws.specs.declared.navigation.PiLoop.{PiLoop}
@@ -40,10 +40,11 @@ use Rattle.guidance.specs.declared.plane.PlaneGuidance.{PlaneGuidance}
 use Rattle.guidance.specs.declared.plane.Created.{Created}
 use Rattle.guidance.specs.declared.plane.Created.the-variants as New
 use Rattle.guidance.specs.declared.plane.LateralLaw.{LateralLaw}
-use Rattle.guidance.specs.declared.plane.LateralLaw.the-variants.{Track, Loiter}
+use Rattle.guidance.specs.declared.plane.LateralLaw.the-variants.{Track, Loiter, Idle}
 use Rattle.guidance.specs.declared.plane.VerticalLaw.{VerticalLaw}
 use Rattle.guidance.specs.declared.plane.VerticalLaw.the-variants.{Energy, Hold, Fallback}
 use Rattle.guidance.specs.declared.plane.Laws.{Laws}
+use Rattle.guidance.specs.declared.plane.Steered.{Steered}
 use Rattle.guidance.specs.declared.plane.WaypointAnswer.{WaypointAnswer}
 use Rattle.guidance.specs.declared.plane.Answer.{Answer}
 use Rattle.guidance.specs.declared.plane.Answer.the-variants.{Refused, Commanded, Waypoint}
@@ -143,13 +144,18 @@ present (Some x) = true
 abbrev pub northEast : Vec3 → Vec2
 northEast v = record { x = v .x; y = v .y }
 
-abbrev pub lateralOf : OptionVec2 → LateralLaw
-lateralOf Leg.None = Loiter
-lateralOf (Leg.Some leg) = Track
+abbrev pub legLaw : OptionVec2 → LateralLaw
+legLaw Leg.None = Loiter
+legLaw (Leg.Some leg) = Track
 
--- track (finite leg) or loiter
-unfoldable pub lateralLaw : WaypointCommand → LateralLaw
-lateralLaw w = lateralOf (finiteLeg (w .«velocity_mps»))
+abbrev pub lateralOf : Bool → OptionVec2 → LateralLaw
+lateralOf idle leg = cond idle Idle (legLaw leg)
+
+-- idle (document 02, K1); else track (finite leg) or loiter
+unfoldable pub lateralLaw : WaypointCommand → VehicleState → LateralLaw
+lateralLaw w s =
+    let leg = finiteLeg (w .«velocity_mps») in
+    lateralOf (idle leg (northEast (s .«velocity_mps»))) leg
 
 -- Energy path: cruise speed above 0 and airspeed present and >= 0.
 unfoldable pub onEnergyPath : WaypointCommand → VehicleState → Bool
@@ -201,6 +207,10 @@ rollOf c w s =
     (c .«loiter_radius_m») (c .«l1_period_s») (c .«l1_damping»)
     in
     clampSymmetric (bankForAccel (lateral .«accel_mps2»)) (c .«max_bank_rad»)
+
+-- what the lateral law answers
+abbrev pub steered : PlaneGuidanceConfig → WaypointCommand → VehicleState → Steered
+steered c w s = record { law = lateralLaw w s; «roll_rad» = rollOf c w s }
 
 -- energy path: the altitude loop is cleared
 abbrev pub onPath : TecsResult → Vertical
@@ -263,22 +273,24 @@ refusal g n = record { guidance = g; answer = Refused n }
 unfoldable pub commanded : PlaneGuidance → FlightRegime → Setpoint → Guided
 commanded g regime setpoint = record { guidance = cleared g (regimeNumber regime); answer = Commanded setpoint }
 
-abbrev pub flown : PlaneGuidance → FlightRegime → Laws → Float → Vertical → Guided
-flown g regime laws roll v = record {
+abbrev pub flown : PlaneGuidance → FlightRegime → Steered → VerticalLaw → Vertical → Guided
+flown g regime lateral law v = record {
   guidance = record { config = g .config; requested = regimeNumber regime; altitude = v .altitude; tecs = v .tecs };
-  answer = Waypoint (record { setpoint = Set.Plane roll (v .«pitch_rad») (v .thrust); laws = laws });
+  answer = Waypoint (record {
+    setpoint = Set.Plane (lateral .«roll_rad») (v .«pitch_rad») (v .thrust);
+    laws = record { lateral = lateral .law; vertical = law };
+  });
 }
 
 -- Number 4: pitch, thrust or a number that would be stored would not be finite.
-abbrev pub settled : PlaneGuidance → FlightRegime → Laws → Float → Vertical → Guided
-settled g regime laws roll v = cond (allFinite v) (flown g regime laws roll v) (refusal g 4)
+abbrev pub settled : PlaneGuidance → FlightRegime → Steered → VerticalLaw → Vertical → Guided
+settled g regime lateral law v = cond (allFinite v) (flown g regime lateral law v) (refusal g 4)
 
 unfoldable pub waypoint : PlaneGuidance → Float → FlightRegime → WaypointCommand → VehicleState → OptionF32 → Guided
 waypoint g dt regime w s cap =
     let law = verticalLaw dt w s in
     cond (badCap cap) (refusal g 3)
-    (settled g regime (record { lateral = lateralLaw w; vertical = law }) (rollOf (g .config) w s)
-    (vertical law (g .config) (g .altitude) (g .tecs) dt w s cap))
+    (settled g regime (steered (g .config) w s) law (vertical law (g .config) (g .altitude) (g .tecs) dt w s cap))
 
 unfoldable pub obeyed : PlaneGuidance → Float → FlightRegime → ControlInput → VehicleState → OptionF32 → Guided
 obeyed g dt regime (Input.Attitude k) s cap = commanded g regime (sticks (g .config) k)

@@ -22,6 +22,7 @@ pub enum Created {
 pub enum LateralLaw {
     Track,
     Loiter,
+    Idle,
 }
 
 pub enum VerticalLaw {
@@ -57,6 +58,12 @@ pub struct Guided {
 pub struct Configured {
     pub field: u32,
     pub guidance: PlaneGuidance,
+}
+
+// What a lateral law answers.
+pub struct Steered {
+    pub law: LateralLaw,
+    pub roll_rad: f32,
 }
 
 // What a vertical law would answer and store; a refusal with number 4 stores none of it.

@@ -4,6 +4,7 @@ use crate::plane::Guided;
 use crate::plane::LateralLaw;
 use crate::plane::Laws;
 use crate::plane::PlaneGuidance;
+use crate::plane::Steered;
 use crate::plane::Vertical;
 use crate::plane::VerticalLaw;
 use crate::plane::WaypointAnswer;
@@ -74,20 +75,16 @@ fn bad_cap(cap: OptionF32) -> bool
     }
 }
 
-fn lateral_of(leg: OptionVec2) -> LateralLaw
-    ensures { λ r. ⌜ r ≡ spec.lateralOf leg ⌝ }
+fn lateral_of(idle: bool, leg: OptionVec2) -> LateralLaw
+    ensures { λ r. ⌜ r ≡ spec.lateralOf idle leg ⌝ }
 {
+    if idle {
+        return LateralLaw::Idle;
+    }
     match leg {
         OptionVec2::None => LateralLaw::Loiter,
         OptionVec2::Some(v) => LateralLaw::Track,
     }
-}
-
-fn lateral_law(w: WaypointCommand) -> LateralLaw
-    ensures { λ r. ⌜ r ≡ spec.lateralLaw w ⌝ }
-{
-    let leg = w.velocity_mps;
-    lateral_of(finite_leg(leg))
 }
 
 fn on_energy_path(w: WaypointCommand, state: VehicleState) -> bool
@@ -153,15 +150,17 @@ fn north_east(v: Vec3) -> Vec2
     Vec2 { x: v.x, y: v.y }
 }
 
-fn roll_of(config: PlaneGuidanceConfig, w: WaypointCommand, state: VehicleState) -> f32
-    ensures { λ r. ⌜ r ≡ spec.rollOf config w state ⌝ }
+// The name of the lateral law, by what the law answers, and its bank.
+fn steered(config: PlaneGuidanceConfig, w: WaypointCommand, state: VehicleState) -> Steered
+    ensures { λ r. ⌜ r ≡ spec.steered config w state ⌝ }
 {
-    let leg = w.velocity_mps;
+    let leg_mps = w.velocity_mps;
     let position_m = state.position_m;
     let velocity_mps = state.velocity_mps;
     let point_m = w.position_m;
+    let leg = finite_leg(leg_mps);
     let lateral = lateral_accel_mps2(
-        finite_leg(leg),
+        leg,
         north_east(position_m),
         north_east(velocity_mps),
         point_m,
@@ -169,7 +168,10 @@ fn roll_of(config: PlaneGuidanceConfig, w: WaypointCommand, state: VehicleState)
         config.l1_period_s,
         config.l1_damping,
     );
-    clamp_symmetric(bank_for_accel_rad(lateral.accel_mps2), config.max_bank_rad)
+    Steered {
+        law: lateral_of(lateral.idle, leg),
+        roll_rad: clamp_symmetric(bank_for_accel_rad(lateral.accel_mps2), config.max_bank_rad),
+    }
 }
 
 // On the energy path the altitude loop is cleared.
@@ -276,15 +278,26 @@ pub fn refusal(g: PlaneGuidance, number: u32) -> Guided
 }
 
 // The answer, and the guidance with what the vertical law stores.
-fn flown(g: PlaneGuidance, regime: FlightRegime, laws: Laws, roll_rad: f32, v: Vertical) -> Guided
-    ensures { λ r. ⌜ r ≡ spec.flown g regime laws «roll_rad» v ⌝ }
+fn flown(
+    g: PlaneGuidance,
+    regime: FlightRegime,
+    lateral: Steered,
+    law: VerticalLaw,
+    v: Vertical,
+) -> Guided
+    ensures { λ r. ⌜ r ≡ spec.flown g regime lateral law v ⌝ }
 {
     let config = g.config;
     let altitude = v.altitude;
     let tecs = v.tecs;
     let requested = regime_number(regime);
+    let lateral_law = lateral.law;
+    let laws = Laws {
+        lateral: lateral_law,
+        vertical: law,
+    };
     let setpoint = Setpoint::Plane {
-        roll_rad,
+        roll_rad: lateral.roll_rad,
         pitch_rad: v.pitch_rad,
         thrust: v.thrust,
     };
@@ -300,11 +313,17 @@ fn flown(g: PlaneGuidance, regime: FlightRegime, laws: Laws, roll_rad: f32, v: V
 }
 
 // Number 4 where a number would not be finite.
-fn settled(g: PlaneGuidance, regime: FlightRegime, laws: Laws, roll_rad: f32, v: Vertical) -> Guided
-    ensures { λ r. ⌜ r ≡ spec.settled g regime laws «roll_rad» v ⌝ }
+fn settled(
+    g: PlaneGuidance,
+    regime: FlightRegime,
+    lateral: Steered,
+    law: VerticalLaw,
+    v: Vertical,
+) -> Guided
+    ensures { λ r. ⌜ r ≡ spec.settled g regime lateral law v ⌝ }
 {
     if all_finite(v) {
-        flown(g, regime, laws, roll_rad, v)
+        flown(g, regime, lateral, law, v)
     } else {
         refusal(g, 4)
     }
@@ -327,12 +346,8 @@ pub fn waypoint(
     let altitude = g.altitude;
     let tecs = g.tecs;
     let law = vertical_law(dt, w, state);
-    let laws = Laws {
-        lateral: lateral_law(w),
-        vertical: law,
-    };
-    // the roll last: no other number waits for it, so that a processor goes on to the next call meanwhile
+    // the lateral law last: no other number waits for it, so that a processor goes on to the next call meanwhile
     let v = vertical_of(law, config, altitude, tecs, dt, w, state, cap);
-    let roll_rad = roll_of(config, w, state);
-    settled(g, regime, laws, roll_rad, v)
+    let lateral = steered(config, w, state);
+    settled(g, regime, lateral, law, v)
 }

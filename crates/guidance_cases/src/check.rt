@@ -26,6 +26,7 @@ fn lateral_number(law: LateralLaw) -> u32 {
     match law {
         LateralLaw::Track => 1,
         LateralLaw::Loiter => 2,
+        LateralLaw::Idle => 3,
     }
 }
 

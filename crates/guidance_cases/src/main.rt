@@ -89,6 +89,7 @@ fn main() {
     total = try_group(b"caps", total);
     total = try_group(b"desk_example", total);
     total = try_group(b"holds", total);
+    total = try_group(b"idle", total);
     total = try_group(b"refusals", total);
     total = try_group(b"speed_demand", total);
     total = try_group(b"sticks", total);

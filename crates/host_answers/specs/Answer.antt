@@ -7,7 +7,7 @@ use Rattle.laws.specs.declared.types.Setpoint.{Setpoint}
 use Rattle.laws.specs.declared.types.Setpoint.the-variants as Set
 use Rattle.claims.specs.Calls.{Reply, answered, done, field}
 use Rattle.guidance.specs.declared.plane.LateralLaw.{LateralLaw}
-use Rattle.guidance.specs.declared.plane.LateralLaw.the-variants.{Track, Loiter}
+use Rattle.guidance.specs.declared.plane.LateralLaw.the-variants.{Track, Loiter, Idle}
 use Rattle.guidance.specs.declared.plane.VerticalLaw.{VerticalLaw}
 use Rattle.guidance.specs.declared.plane.VerticalLaw.the-variants.{Energy, Hold, Fallback}
 use Rattle.guidance.specs.declared.plane.Answer.{Answer}
@@ -29,10 +29,11 @@ bare refusal failing next = record {
   next = next;
 }
 
--- 1 track, 2 loiter
+-- 1 track, 2 loiter, 3 idle
 abbrev pub lateralNumber : LateralLaw → ℕ
 lateralNumber Track = 1
 lateralNumber Loiter = 2
+lateralNumber Idle = 3
 
 -- 1 energy, 2 hold, 3 fallback
 abbrev pub verticalNumber : VerticalLaw → ℕ

@@ -9,7 +9,7 @@ ghost use Rattle.calls.specs.Calls.{asReply};
 ghost use Rattle.host_answers.specs.Answer as spec;
 
 // refusal: 0 or the refusal's number; field: of number 1, the failing field; setpoint: 0 none, 1 plane, 2 plane rate;
-// lateral: 0 none, 1 track, 2 loiter; vertical: 0 none, 1 energy, 2 hold, 3 fallback; yaw is +0 in a plane setpoint;
+// lateral: 0 none, 1 track, 2 loiter, 3 idle; vertical: 0 none, 1 energy, 2 hold, 3 fallback; yaw is +0 in a plane setpoint;
 // next: the place after the record, 0 where no record was read.
 #[repr(C)]
 pub struct RunAnswer {
@@ -49,6 +49,7 @@ fn lateral_number(law: LateralLaw) -> u32
     match law {
         LateralLaw::Track => 1,
         LateralLaw::Loiter => 2,
+        LateralLaw::Idle => 3,
     }
 }
 

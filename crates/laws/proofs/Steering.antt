@@ -62,7 +62,7 @@ module _ (position velocity point : Vec2) (radius period damping : Float) where
   known h through None = refl
   known h through (Parts d) = rw h
 
-  no-track : noCourse (norm velocity) ≡ true → (n : Normalised) → trackBy position velocity point period damping n ≡ level
+  no-track : noCourse (norm velocity) ≡ true → (n : Normalised) → trackBy position velocity point period damping n ≡ level true
   unfolding trackBy
   no-track h None = refl
   no-track h (Parts d) = rw h
@@ -77,10 +77,12 @@ module _ (position velocity point : Vec2) (radius period damping : Float) where
 
   pub gives-up :
       (leg : OptionVec2) → noCourse (norm velocity) || badRadius leg radius ≡ true →
-      lateralAccel leg position velocity point radius period damping ≡ level
+      lateralAccel leg position velocity point radius period damping ≡ level (noCourse (norm velocity))
   unfolding badRadius lateralAccel loiterAccel trackAccel
   gives-up Leg.None h = rw (or-assoc (noCourse (norm velocity)) (isNan radius) (le radius n0), h)
-  gives-up (Leg.Some d) h = no-track (sym (or-false (noCourse (norm velocity))) ∙ h) (normalise d leastLeg)
+  gives-up (Leg.Some d) h =
+      let slow = sym (or-false (noCourse (norm velocity))) ∙ h in
+      rw slow (no-track slow (normalise d leastLeg))
 
   pub steers :
       (leg : OptionVec2) → noCourse (norm velocity) || badRadius leg radius ≡ false →

@@ -1,5 +1,5 @@
 -- The L1 laws and the PI loop of navigation.rs: x is north, y east, right is positive. Definitions only.
-use mathlib.Core.Bool.{Bool, cond, _&&_, _||_}
+use mathlib.Core.Bool.{Bool, true, false, cond, _&&_, _||_}
 use lib.Ieee as Ieee
 use lib.Ieee.{Float, isNan, neg}
 use Rattle.arithmetic.specs.Constants.{f32, _+ᶠ_, _-ᶠ_, _·ᶠ_, _/ᶠ_, n0, n1, pi, fracPi2, fracPi4}
@@ -53,8 +53,8 @@ unfoldable pub noCourse : Float → Bool
 noCourse speed = isNan speed || Ieee.lt speed n1
 
 -- where a law gives up: wings level
-abbrev pub level : Lateral
-level = record { «accel_mps2» = n0 }
+abbrev pub level : Bool → Lateral
+level idle = record { «accel_mps2» = n0; idle = idle }
 
 -- the L1 distance and the gain 4ζ² for a ground speed
 unfoldable pub l1 : Float → Float → Float → L1Gains
@@ -78,14 +78,14 @@ trackAlong position velocity point direction speed period damping =
     let crossTrack = cross direction (difference position point) in
     let eta = clampSymmetric (neg (capture crossTrack (gains .«distance_m»)) -ᶠ course direction velocity) fracPi2 in
     let accel = gains .gain ·ᶠ speed ·ᶠ speed /ᶠ gains .«distance_m» ·ᶠ sine eta in
-    record { «accel_mps2» = choose (finite accel) accel n0 }
+    record { «accel_mps2» = choose (finite accel) accel n0; idle = false }
 
--- by the leg's normalised direction: none, a leg of length up to 1e-6, gives 0, as no course does
+-- by the leg's normalised direction: none, a leg of length up to 1e-6, gives 0 and is idle, as no course does
 unfoldable pub trackBy : Vec2 → Vec2 → Vec2 → Float → Float → Normalised → Lateral
-trackBy position velocity point period damping None = level
+trackBy position velocity point period damping None = level true
 trackBy position velocity point period damping (Parts direction) =
     let speed = norm velocity in
-    cond (noCourse speed) level (trackAlong position velocity point direction speed period damping)
+    cond (noCourse speed) (level true) (trackAlong position velocity point direction speed period damping)
 
 -- the line through the point along the direction, which has any length
 unfoldable pub trackAccel : Vec2 → Vec2 → Vec2 → Vec2 → Float → Float → Lateral
@@ -101,15 +101,16 @@ centripetal speed radius = speed ·ᶠ speed /ᶠ radius
 -- by the direction outward from the centre: within 1e-3 of it centripetal alone, else track on the tangent at the
 -- circle's nearest point, and centripetal added
 unfoldable pub loiterBy : Vec2 → Vec2 → Vec2 → Float → Float → Float → Normalised → Lateral
-loiterBy position velocity center radius period damping None = record { «accel_mps2» = centripetal (norm velocity) radius }
+loiterBy position velocity center radius period damping None =
+    record { «accel_mps2» = centripetal (norm velocity) radius; idle = false }
 loiterBy position velocity center radius period damping (Parts outward) =
     let tracked = trackAccel position velocity (along center outward radius) (rightOf outward) period damping in
-    record { «accel_mps2» = centripetal (norm velocity) radius +ᶠ tracked .«accel_mps2» }
+    record { «accel_mps2» = centripetal (norm velocity) radius +ᶠ tracked .«accel_mps2»; idle = false }
 
--- clockwise around the centre; no course, or a radius that is NaN or not above 0: 0
+-- clockwise around the centre; no course, or a radius that is NaN or not above 0: 0, idle without a course
 unfoldable pub loiterAccel : Vec2 → Vec2 → Vec2 → Float → Float → Float → Lateral
 loiterAccel position velocity center radius period damping =
-    cond (noCourse (norm velocity) || isNan radius || Ieee.le radius n0) level
+    cond (noCourse (norm velocity) || isNan radius || Ieee.le radius n0) (level (noCourse (norm velocity)))
     (loiterBy position velocity center radius period damping (normalise (difference position center) leastOffset))
 
 -- ---- track or loiter
@@ -123,6 +124,17 @@ finiteLeg (Leg.Some v) = cond (allFinite v) (Leg.Some v) Leg.None
 unfoldable pub lateralAccel : OptionVec2 → Vec2 → Vec2 → Vec2 → Float → Float → Float → Lateral
 lateralAccel Leg.None position velocity point radius period damping = loiterAccel position velocity point radius period damping
 lateralAccel (Leg.Some leg) position velocity point radius period damping = trackAccel position velocity point leg period damping
+
+-- ---- idle, document 02's K1: by the call's own numbers
+
+-- a leg's length is at most 1e-6
+abbrev pub shortLeg : OptionVec2 → Bool
+shortLeg Leg.None = false
+shortLeg (Leg.Some leg) = Ieee.le (norm leg) leastLeg
+
+-- or the ground speed is below 1.0 or NaN
+unfoldable pub idle : OptionVec2 → Vec2 → Bool
+idle leg velocity = shortLeg leg || noCourse (norm velocity)
 
 -- ---- bank
 

@@ -31,9 +31,10 @@ const MIN_GROUND_SPEED_MPS: f32 = 1.0;
 
 const MAX_CAPTURE_RAD: f32 = FRAC_PI_4;
 
-// What a lateral law answers: the acceleration in m/s², right positive.
+// What a lateral law answers: the acceleration in m/s², right positive; idle where it gave up for want of a leg or a course.
 pub struct Lateral {
     pub accel_mps2: f32,
+    pub idle: bool,
 }
 
 // The L1 distance and gain for a ground speed.
@@ -129,6 +130,7 @@ fn track_along(
     let accel = gains.gain * speed_mps * speed_mps / gains.distance_m * sine(eta_rad);
     Lateral {
         accel_mps2: choose(is_finite(accel), accel, 0.0),
+        idle: false,
     }
 }
 
@@ -145,7 +147,10 @@ fn track_to(
     ensures { λ r. ⌜ r ≡ steering.trackTo «position_m» «velocity_mps» «point_m» «speed_mps» «period_s» damping (unit direction spec.leastLeg) ⌝ }
 {
     match normalise(direction, 1e-6) {
-        Normalised::None => Lateral { accel_mps2: 0.0 },
+        Normalised::None => Lateral {
+            accel_mps2: 0.0,
+            idle: true,
+        },
         Normalised::Parts(d) => {
             track_along(
                 position_m,
@@ -213,6 +218,7 @@ fn with_centripetal(leg: OptionVec2, speed_mps: f32, radius_m: f32, tracked: Lat
     match leg {
         OptionVec2::None => Lateral {
             accel_mps2: centripetal(speed_mps, radius_m) + tracked.accel_mps2,
+            idle: false,
         },
         OptionVec2::Some(_) => tracked,
     }
@@ -247,6 +253,7 @@ fn steer(
         }
         Aim::Center => Lateral {
             accel_mps2: centripetal(speed_mps, radius_m),
+            idle: false,
         },
     }
 }
@@ -265,8 +272,12 @@ pub fn lateral_accel_mps2(
     ensures { λ r. ⌜ r ≡ spec.lateralAccel leg «position_m» «velocity_mps» «point_m» «radius_m» «period_s» damping ⌝ }
 {
     let speed_mps = norm(velocity_mps);
-    if no_course(speed_mps) | bad_radius(leg, radius_m) {
-        return Lateral { accel_mps2: 0.0 };
+    let idle = no_course(speed_mps);
+    if idle | bad_radius(leg, radius_m) {
+        return Lateral {
+            accel_mps2: 0.0,
+            idle,
+        };
     }
     let aim = aim_of(leg, position_m, point_m, radius_m);
     steer(

@@ -11,7 +11,7 @@ use borrow.Rule.Slice.PartMut.{putMid}
 use lib.ListN.{length, set, take, drop, getD, length-append, length-take}
 use lib.Seq.{take-suc, take-take, take-length, length-take-le, getD-take}
 use Rattle.lines.specs.declared.Word.{Word}
-use Rattle.lines.specs.declared.Word.the-variants.{None, Plane, Rate, Prime, Track, Loiter, Energy, Hold, Fallback, Refused, Stopped}
+use Rattle.lines.specs.declared.Word.the-variants.{None, Plane, Rate, Prime, Track, Loiter, Idle, Energy, Hold, Fallback, Refused, Stopped}
 use Rattle.lines.specs.declared.Line.{Line}
 use Rattle.lines.specs.Line.{digits, hex8, decimalIn, decimal, word, words, subject, refusal, values, numbers, text, Puts}
 use Rattle.lines.proofs.PutLaw.{Wrote, wrote-none, wrote-first, wrote-all, wrote-byte, room-after, wrote-rest}
@@ -174,6 +174,7 @@ word-short Rate = omega arith
 word-short Prime = omega arith
 word-short Track = omega arith
 word-short Loiter = omega arith
+word-short Idle = omega arith
 word-short Energy = omega arith
 word-short Hold = omega arith
 word-short Fallback = omega arith

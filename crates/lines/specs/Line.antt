@@ -7,7 +7,7 @@ use lib.Dec.{eqb, ltb}
 use lib.ListN.{length, take}
 use Rattle.fields.specs.Bytes.{putAt}
 use Rattle.lines.specs.declared.Word.{Word}
-use Rattle.lines.specs.declared.Word.the-variants.{None, Plane, Rate, Prime, Track, Loiter, Energy, Hold, Fallback, Refused, Stopped}
+use Rattle.lines.specs.declared.Word.the-variants.{None, Plane, Rate, Prime, Track, Loiter, Idle, Energy, Hold, Fallback, Refused, Stopped}
 use Rattle.lines.specs.declared.Line.{Line}
 
 -- 0 to 9, a to f
@@ -40,6 +40,7 @@ word Rate = 32 ∷ 114 ∷ 97 ∷ 116 ∷ 101 ∷ []
 word Prime = 32 ∷ 112 ∷ 114 ∷ 105 ∷ 109 ∷ 101 ∷ []
 word Track = 32 ∷ 116 ∷ 114 ∷ 97 ∷ 99 ∷ 107 ∷ []
 word Loiter = 32 ∷ 108 ∷ 111 ∷ 105 ∷ 116 ∷ 101 ∷ 114 ∷ []
+word Idle = 32 ∷ 105 ∷ 100 ∷ 108 ∷ 101 ∷ []
 word Energy = 32 ∷ 101 ∷ 110 ∷ 101 ∷ 114 ∷ 103 ∷ 121 ∷ []
 word Hold = 32 ∷ 104 ∷ 111 ∷ 108 ∷ 100 ∷ []
 word Fallback = 32 ∷ 102 ∷ 97 ∷ 108 ∷ 108 ∷ 98 ∷ 97 ∷ 99 ∷ 107 ∷ []

@@ -60,6 +60,7 @@ kindWord (Set.PlaneRate roll pitch yaw thrust) = word.Rate
 abbrev pub lateralWord : LateralLaw → Word
 lateralWord Lateral.Track = word.Track
 lateralWord Lateral.Loiter = word.Loiter
+lateralWord Lateral.Idle = word.Idle
 
 abbrev pub verticalWord : VerticalLaw → Word
 verticalWord Vertical.Energy = word.Energy

@@ -112,6 +112,7 @@ fn lateral_word(law: LateralLaw) -> Word
     match law {
         LateralLaw::Track => Word::Track,
         LateralLaw::Loiter => Word::Loiter,
+        LateralLaw::Idle => Word::Idle,
     }
 }
 

@@ -50,6 +50,30 @@ def ties():
     return lines
 
 
+# Document 02's K1, by hand: the lateral law's name, what makes it so, and the call. 3f7fffff is the f32 below 1, 358637bd
+# the nearest to 1e-6.
+IDLE = [
+    ("track", "ground speed 1, on a leg", dict(leg=[1.0, 0.0], velocity=[1.0, 0.0])),
+    ("idle", "ground speed under 1, on a leg", dict(leg=[1.0, 0.0], velocity=[0x3F7FFFFF, 0.0])),
+    ("loiter", "ground speed 1", dict(position=[50.0, 5.0], velocity=[0.0, 1.0])),
+    ("idle", "ground speed under 1", dict(position=[50.0, 5.0], velocity=[0.0, 0x3F7FFFFF])),
+    ("idle", "ground speed NaN, on a leg", dict(leg=[1.0, 0.0], velocity=[16.0, NAN])),
+    ("idle", "ground speed NaN", dict(position=[50.0, 5.0], velocity=[NAN, 16.0])),
+    ("track", "ground speed infinite, on a leg", dict(leg=[1.0, 0.0], velocity=[INFINITY, 0.0])),
+    ("loiter", "ground speed infinite", dict(position=[50.0, 5.0], velocity=[0.0, -INFINITY])),
+    ("idle", "leg of length 1e-6", dict(leg=[0x358637BD, 0.0], velocity=[0.0, 16.0])),
+    ("track", "leg of length over 1e-6", dict(leg=[0x358637BE, 0.0], velocity=[0.0, 16.0])),
+    ("idle", "leg of length 0", dict(leg=[0.0, MINUS_ZERO], velocity=[0.0, 16.0])),
+    ("track", "leg whose length overflows", dict(leg=[1e30, 1e30], velocity=[0.0, 16.0])),
+    ("idle", "leg whose length overflows, ground speed 0.5", dict(leg=[1e30, 1e30], velocity=[0.0, 0.5])),
+    ("loiter", "leg not finite, ground speed 20", dict(leg=[INFINITY, 0.0], position=[50.0, 5.0], velocity=[20.0, 0.0])),
+    ("idle", "leg not finite, ground speed 0.5", dict(leg=[INFINITY, 0.0], position=[50.0, 5.0], velocity=[0.5, 0.0])),
+    ("loiter", "within 1e-3 of the centre", dict(position=[0x3A83126E, 0.0], velocity=[20.0, 0.0])),
+    ("loiter", "so far that the offset's length overflows", dict(position=[3e38, 0.0], velocity=[20.0, 0.0])),
+    ("idle", "on the grass", dict()),
+]
+
+
 def underspeed():
     """Share 0.5, least airspeed 10: 4.9 sets it, 5 and 9.9 keep it, 10 clears it."""
     lines = [configuration({27: 0.5})]
@@ -209,6 +233,7 @@ RECORDINGS = {
     "airspeed-1e30": single({}, "accepted", cruise=20.0, airspeed=1e30),
     "airspeed-1e30-weight-0": single({23: 0.0}, "refused 4", cruise=20.0, airspeed=1e30),
     "ties-by-hand": ties(),
+    "idle": [DEFAULTS] + [f"{waypoint(**fields)} # {name}: {remark}" for name, remark, fields in IDLE],
     "underspeed": underspeed(),
     "refusals": refusals(),
     "caps": caps(),

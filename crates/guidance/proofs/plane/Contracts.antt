@@ -16,14 +16,14 @@ use Rattle.laws.specs.declared.types.FlightRegime.{FlightRegime}
 use Rattle.laws.specs.declared.types.VehicleState.{VehicleState}
 use Rattle.laws.specs.declared.types.WaypointCommand.{WaypointCommand}
 use Rattle.laws.specs.declared.types.Setpoint.{Setpoint}
-use Rattle.guidance.specs.Plane.{isWaypoint, fresh, created, commanded, waypoint, obeyed, guided, refusal, flown, rollOf, lateralLaw, verticalLaw, allFinite, badTimeStep, badCap, refusalNumber, setpointValues, answerValues}
+use Rattle.guidance.specs.Plane.{isWaypoint, fresh, created, commanded, waypoint, obeyed, guided, refusal, flown, steered, verticalLaw, allFinite, badTimeStep, badCap, refusalNumber, setpointValues, answerValues}
 use Rattle.guidance.specs.Contracts.{createdField, Creates, wouldGive, wouldBeFinite, guideNumber, acceptedValues, Guides}
 use Rattle.guidance.specs.declared.plane.PlaneGuidance.{PlaneGuidance}
 use Rattle.guidance.specs.declared.plane.Created.{Created}
 use Rattle.guidance.specs.declared.plane.Created.the-variants as New
 use Rattle.guidance.specs.declared.plane.Guided.{Guided}
 use Rattle.guidance.specs.declared.plane.Vertical.{Vertical}
-use Rattle.guidance.specs.declared.plane.Laws.{Laws}
+use Rattle.guidance.specs.declared.plane.Steered.{Steered}
 
 -- ---- new
 
@@ -62,16 +62,13 @@ waypoint-tells g dt regime w s cap = go (badCap cap) (allFinite v)
     v : Vertical
     v = wouldGive g dt w s cap
 
-    laws : Laws
-    laws = record { lateral = lateralLaw w; vertical = verticalLaw dt w s }
+    lateral : Steered
+    lateral = steered (g .config) w s
 
-    roll : Float
-    roll = rollOf (g .config) w s
-
-    go : (b f : Bool) → Tells g (cond b 3 (cond f 0 4)) (roll ∷ v .«pitch_rad» ∷ v .thrust ∷ [])
-        (cond b (refusal g 3) (cond f (flown g regime laws roll v) (refusal g 4)))
+    go : (b f : Bool) → Tells g (cond b 3 (cond f 0 4)) (lateral .«roll_rad» ∷ v .«pitch_rad» ∷ v .thrust ∷ [])
+        (cond b (refusal g 3) (cond f (flown g regime lateral (verticalLaw dt w s) v) (refusal g 4)))
     go true f = refused g 3 _ refl
-    go false true = accepted g (flown g regime laws roll v) refl
+    go false true = accepted g (flown g regime lateral (verticalLaw dt w s) v) refl
     go false false = refused g 4 _ refl
 
 obeyed-tells : (g : PlaneGuidance) (dt : Float) (regime : FlightRegime) (input : ControlInput) (s : VehicleState) (cap : OptionF32) →

@@ -17,7 +17,7 @@ use Rattle.laws.specs.declared.navigation.Lateral.{Lateral}
 
 -- track at a ground speed that has a course, by the leg's normalised direction
 unfoldable pub trackTo : Vec2 → Vec2 → Vec2 → Float → Float → Float → Normalised → Lateral
-trackTo position velocity point speed period damping None = level
+trackTo position velocity point speed period damping None = level true
 trackTo position velocity point speed period damping (Parts direction) = trackAlong position velocity point direction speed period damping
 
 -- a loiter's aim, by the direction outward from the centre
@@ -36,10 +36,10 @@ badRadius (Leg.Some leg) radius = false
 
 -- what a loiter adds to track
 unfoldable pub withCentripetal : OptionVec2 → Float → Float → Lateral → Lateral
-withCentripetal Leg.None speed radius tracked = record { «accel_mps2» = centripetal speed radius +ᶠ tracked .«accel_mps2» }
+withCentripetal Leg.None speed radius tracked = record { «accel_mps2» = centripetal speed radius +ᶠ tracked .«accel_mps2»; idle = false }
 withCentripetal (Leg.Some leg) speed radius tracked = tracked
 
 unfoldable pub steer : Aim → OptionVec2 → Vec2 → Vec2 → Float → Float → Float → Float → Lateral
 steer (Line line) leg position velocity radius speed period damping =
     withCentripetal leg speed radius (trackTo position velocity (line .point) speed period damping (normalise (line .direction) leastLeg))
-steer Center leg position velocity radius speed period damping = record { «accel_mps2» = centripetal speed radius }
+steer Center leg position velocity radius speed period damping = record { «accel_mps2» = centripetal speed radius; idle = false }

@@ -109,6 +109,16 @@ put-bytes-requires-10 : tie.Need-put-bytes-requires-10
 unfolding word
 put-bytes-requires-10 c κs = word-fits (c .before .before .enum-told11 .given .1) (c .before .before .before .before .before .pre)
 
+enum-told-12 : tie.Need-enum-told-12
+enum-told-12 c = search needs
+
+slice-aggregate-put-bytes-11 : tie.Need-slice-aggregate-put-bytes-11
+slice-aggregate-put-bytes-11 c = search needs
+
+put-bytes-requires-11 : tie.Need-put-bytes-requires-11
+unfolding word
+put-bytes-requires-11 c κs = word-fits (c .before .before .enum-told12 .given .1) (c .before .before .before .before .before .pre)
+
 returns : tie.Need-returns
 unfolding word
 returns c = word-puts (c .enum-told .given .1) (puts-none _)
@@ -183,6 +193,13 @@ returns-11 : tie.Need-returns-11
 unfolding word
 returns-11 c = word-puts (c .before .before .before .before .before .enum-told11 .given .1) (c .before .before .put-bytes10 .ensures)
 
+same-length-11 : tie.Need-same-length-11
+same-length-11 c = search needs
+
+returns-12 : tie.Need-returns-12
+unfolding word
+returns-12 c = word-puts (c .before .before .before .before .before .enum-told12 .given .1) (c .before .before .put-bytes11 .ensures)
+
 pub put-word-spec : {M : Type 1} → statement M
 put-word-spec =
     tie.close
@@ -218,6 +235,9 @@ put-word-spec =
     enum-told-11
     slice-aggregate-put-bytes-10
     put-bytes-requires-10
+    enum-told-12
+    slice-aggregate-put-bytes-11
+    put-bytes-requires-11
     returns
     same-length
     returns-2
@@ -238,4 +258,6 @@ put-word-spec =
     same-length-9
     returns-10
     same-length-10
-    returns-11)
+    returns-11
+    same-length-11
+    returns-12)

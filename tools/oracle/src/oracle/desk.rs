@@ -40,6 +40,7 @@ pub fn answer_text(answer: &Answer) -> String {
             let lateral = match lateral {
                 Lateral::Track => "track",
                 Lateral::Loiter => "loiter",
+                Lateral::Idle => "idle",
             };
             let vertical = match vertical {
                 Vertical::Energy => "energy",

@@ -1,4 +1,4 @@
-//! Document 01's calls over a guidance of the Rust: refusals 1 to 4 and the law names.
+//! Document 01's calls over a guidance of the Rust: refusals 1 to 4 and the law names, with document 02's idle.
 
 use crate::configuration::Numbers;
 use crate::flown::{Flown, Setpoint};
@@ -15,6 +15,7 @@ pub const NOT_FINITE: u32 = 4;
 pub enum Lateral {
     Track,
     Loiter,
+    Idle,
 }
 
 #[derive(Clone, Copy, Debug, PartialEq)]
@@ -32,10 +33,27 @@ pub enum Answer {
     Waypoint(Lateral, Vertical, [f32; 3]),
 }
 
+/// The leg where it is present and finite.
+pub fn finite_leg(w: &Waypoint) -> Option<[f32; 2]> {
+    w.leg.filter(|leg| leg.iter().all(|number| number.is_finite()))
+}
+
+/// Why a waypoint is idle: document 02, K1.
+pub fn idle_reason(w: &Waypoint) -> Option<&'static str> {
+    let ground_speed = arithmetic::length(w.velocity[0], w.velocity[1]);
+    match finite_leg(w) {
+        Some([north, east]) if arithmetic::length(north, east) <= 1e-6 => Some("short leg"),
+        _ if ground_speed < 1.0 => Some("ground speed below 1"),
+        _ if ground_speed.is_nan() => Some("ground speed NaN"),
+        _ => None,
+    }
+}
+
 pub fn lateral(w: &Waypoint) -> Lateral {
-    match w.leg {
-        Some([north, east]) if north.is_finite() && east.is_finite() => Lateral::Track,
-        _ => Lateral::Loiter,
+    match (idle_reason(w), finite_leg(w)) {
+        (Some(_), _) => Lateral::Idle,
+        (None, Some(_)) => Lateral::Track,
+        (None, None) => Lateral::Loiter,
     }
 }
 

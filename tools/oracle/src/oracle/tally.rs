@@ -113,6 +113,10 @@ impl Tally {
         if !accepted {
             return;
         }
+        if let Some(reason) = guidance::idle_reason(w) {
+            let leg = if guidance::finite_leg(w).is_some() { "on a leg" } else { "no leg" };
+            self.add("idle", if reason == "short leg" { reason.to_string() } else { format!("{reason}, {leg}") });
+        }
         match guidance::vertical(w) {
             Vertical::Energy => {
                 let underspeed = if before.energy.underspeed { "underspeed stood" } else { "no underspeed" };

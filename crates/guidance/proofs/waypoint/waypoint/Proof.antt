@@ -9,12 +9,18 @@ returns c = rw (c .refusal .ensures, ← c .before .before .bad-cap .ensures, c 
 returns-2 : tie.Need-returns-2
 unfolding waypoint
 returns-2 c =
-    let r = c .before in
-    let v = r .before in
-    let l = v .before in
-    let a = l .before in
+    let l = c .before in
+    let v = l .before in
+    let a = v .before in
     let e = a .before .before .before .before in
-    rw (c .settled .ensures, v .vertical-of .ensures, r .roll-of .ensures, l .lateral-law .ensures, a .vertical-law .ensures, ← e .before .bad-cap .ensures, e .if1 .left)
+    rw (
+      c .settled .ensures,
+      v .vertical-of .ensures,
+      l .steered .ensures,
+      a .vertical-law .ensures,
+      ← e .before .bad-cap .ensures,
+      e .if1 .left,
+    )
 
 pub waypoint-spec : {M : Type 1} → statement M
-waypoint-spec = tie.close (tie.spec (λ c κs. tt) (λ c κs. tt) returns (λ c κs. tt) (λ c κs. tt) (λ c κs. tt) (λ c κs. tt) (λ c κs. tt) returns-2)
+waypoint-spec = tie.close (tie.spec (λ c κs. tt) (λ c κs. tt) returns (λ c κs. tt) (λ c κs. tt) (λ c κs. tt) (λ c κs. tt) returns-2)

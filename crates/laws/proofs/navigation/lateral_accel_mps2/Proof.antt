@@ -8,7 +8,7 @@ returns c =
     let r = c .before in
     let n = r .before in
     let h = rw (r .bad-radius .ensures, n .no-course .ensures, n .before .norm .ensures) at (c .if1 .taken) in
-    rw (gives-up _ _ _ _ _ _ _ h)
+    rw (gives-up _ _ _ _ _ _ _ h, n .no-course .ensures, n .before .norm .ensures)
 
 returns-2 : tie.Need-returns-2
 returns-2 c =
