@@ -39,6 +39,7 @@ SECTIONS = {
     "legs": ["finite", "finite, length overflows", "finite, length up to 1e-6", "none", "not finite"],
     "records": [*(f"call stopped {number}" for number in (5, 6, 7)), *(f"configuration stopped {number}" for number in (5, 6))],
 }
+SECTIONS["ties"] = [f"{law}, {zero}" for law in ("leg", "tangent") for zero in ("+0", "-0")]
 BESIDE = "beside the Rust's own min, max and clamp"
 
 

@@ -46,8 +46,10 @@ FIGURES = {
     ("desk-example", 3): "refused 2",
     ("desk-example", 4): "idle hold 00000000 00000000 3f000000",
     ("ties-by-hand", 1): "track fallback 80000000 00000000 3f000000",  # on the line and along it
-    ("ties-by-hand", 2): "track fallback bf490fdb 00000000 3f000000",  # straight back on a north leg
-    ("ties-by-hand", 4): "track fallback 3f490fdb 00000000 3f000000",  # straight back on an east leg
+    # document 02, K5: straight back turns right, at the default bank of 45 degrees, for either zero
+    **{("ties-by-hand", n): "track fallback 3f490fdb 00000000 3f000000" for n in (*range(2, 13), 32, 33, 34, 35, 38)},
+    **{("ties-by-hand", n): "loiter fallback 3f490fdb 00000000 3f000000" for n in (36, 37)},
+    ("ties-by-hand", 40): "track fallback 00000000 00000000 3f000000",  # position NaN
     ("ties-by-hand", 27): "loiter fallback 3f490fdb 00000000 3f000000",  # loiter at velocity (1e30, 0) from (100, 7)
     ("ties-by-hand", 28): "loiter fallback 3f1405d0 00000000 3f000000",  # loiter, position NaN
 }

@@ -1,6 +1,8 @@
 -- Laws about the definitions, for this crate's proofs and for crates above.
 pub mod Idle
+pub mod Plus
 pub mod Starred
 pub mod Steering
+pub mod StraightBack
 pub mod Validated
 pub mod Values

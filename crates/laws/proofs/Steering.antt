@@ -41,9 +41,13 @@ past-right ratio h g = rw (h, g) captured-right
 
 -- ---- one speed, one aim
 
-or-left : (a b : Bool) → a || b ≡ false → a ≡ false
+pub or-left : (a b : Bool) → a || b ≡ false → a ≡ false
 or-left true b h = never′ h
 or-left false b h = refl
+
+pub or-right : (a b : Bool) → a || b ≡ false → b ≡ false
+or-right true b h = never′ h
+or-right false b h = h
 
 or-assoc : (a b c : Bool) → a || b || c ≡ a || (b || c)
 or-assoc true b c = refl

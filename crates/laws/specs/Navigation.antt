@@ -65,18 +65,27 @@ unfoldable pub capture : Float → Float → Float
 capture crossTrack distance =
     clamp (arcsine (clamp (crossTrack /ᶠ distance) (neg n1) n1)) (neg maxCapture) maxCapture
 
--- the course relative to the line
+-- Straight back, document 02's K5: the cross product is a zero of either sign and the dot is below 0.
+abbrev pub tie : Vec2 → Vec2 → Bool
+tie direction velocity = Ieee.eq (cross direction velocity) n0 && Ieee.lt (dot direction velocity) n0
+
+-- the course relative to the line; at a tie -PI
 unfoldable pub course : Vec2 → Vec2 → Float
-course direction velocity = arctangent2 (cross direction velocity) (dot direction velocity)
+course direction velocity =
+    cond (tie direction velocity) (neg pi) (arctangent2 (cross direction velocity) (dot direction velocity))
 
 -- ---- track
+
+-- the angle steered, right positive: the course, and the angle back toward the line, at most a quarter turn
+abbrev pub steeredRad : Vec2 → Vec2 → Vec2 → Vec2 → Float → Float
+steeredRad position velocity point direction distance =
+    clampSymmetric (neg (capture (cross direction (difference position point)) distance) -ᶠ course direction velocity) fracPi2
 
 -- along a normalised direction, with a ground speed that has a course; a result that isn't finite: 0
 unfoldable pub trackAlong : Vec2 → Vec2 → Vec2 → Vec2 → Float → Float → Float → Lateral
 trackAlong position velocity point direction speed period damping =
     let gains = l1 speed period damping in
-    let crossTrack = cross direction (difference position point) in
-    let eta = clampSymmetric (neg (capture crossTrack (gains .«distance_m»)) -ᶠ course direction velocity) fracPi2 in
+    let eta = steeredRad position velocity point direction (gains .«distance_m») in
     let accel = gains .gain ·ᶠ speed ·ᶠ speed /ᶠ gains .«distance_m» ·ᶠ sine eta in
     record { «accel_mps2» = choose (finite accel) accel n0; idle = false }
 

@@ -105,10 +105,16 @@ fn capture(cross_track_m: f32, distance_m: f32) -> f32
     clamp(arcsine(ratio), -MAX_CAPTURE_RAD, MAX_CAPTURE_RAD)
 }
 
+// Straight back is a tie, which turns right whatever the sign of the zero.
 fn course(direction: Vec2, velocity_mps: Vec2) -> f32
     ensures { λ r. ⌜ r ≡ spec.course direction «velocity_mps» ⌝ }
 {
-    arctangent2(cross(direction, velocity_mps), dot(direction, velocity_mps))
+    let side = cross(direction, velocity_mps);
+    let ahead = dot(direction, velocity_mps);
+    if (side == 0.0) & (ahead < 0.0) {
+        return -PI;
+    }
+    arctangent2(side, ahead)
 }
 
 // The law along a normalised direction (zeros where the leg's length overflows), at a ground speed that has a course.

@@ -47,6 +47,14 @@ def ties():
     add("a leg that is not finite is a loiter", leg=[NAN, 1.0], velocity=[16.0, 0.0], position=[30.0, 0.0])
     add("a leg whose length overflows", leg=[1e30, 0.0], velocity=[0.0, 16.0])
     add("velocity NaN", leg=north, velocity=[NAN, 0.0])
+    add("straight back on a south-west leg", leg=[-1.0, -1.0], velocity=[11.0, 11.0])
+    for east in (1e6, -1e6, INFINITY):
+        add(f"straight back on a north leg, {east} m off it", leg=north, position=[0.0, east], velocity=[-16.0, 0.0])
+    add("straight back on a loiter's tangent", position=[100.0, 0.0], velocity=[0.0, -16.0])
+    add("straight back on a loiter's tangent, west of it", position=[0.0, -100.0], velocity=[-16.0, MINUS_ZERO])
+    add("straight back on a leg whose east part vanishes when it is normalised", leg=[3.0, 0x00000001], velocity=[-16.0, 0.0])
+    add("no direction: the dot is 0", leg=[1e30, 0.0], velocity=[-16.0, 0.0])
+    add("straight back, position NaN", leg=north, position=[0.0, NAN], velocity=[-16.0, 0.0])
     return lines
 
 

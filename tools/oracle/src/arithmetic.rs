@@ -178,8 +178,6 @@ pub fn arctangent_of(y: f32, x: f32) -> f32 {
         return arctangent(y / x);
     }
     if is!(x < 0.0) {
-        // Counted apart: the tie straight back is decided by the sign of a zero y.
-        let _tie = is!(y == 0.0) && is!(y.is_sign_negative());
         let a = arctangent(y / x);
         return if is!(y.is_sign_negative()) { a - PI } else { a + PI };
     }

@@ -8,6 +8,7 @@ mod flown;
 mod functions;
 mod generate;
 mod guidance;
+mod lateral;
 mod limits;
 mod numbers;
 mod original;
@@ -223,6 +224,7 @@ fn main() {
         Some("count") if !rest.is_empty() => output(count(rest).as_bytes()),
         Some("original") => output(original::beside(&input()).as_bytes()),
         Some("trigonometry") => output(trigonometry::report().as_bytes()),
+        Some("sides") => output(trigonometry::sides().as_bytes()),
         Some("count-files") => output(count_files(rest).as_bytes()),
         _ => usage("no such command"),
     }

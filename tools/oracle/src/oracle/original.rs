@@ -91,8 +91,8 @@ pub fn all_finite(setpoint: &Setpoint, state: &State) -> bool {
     answered && state.numbers().iter().all(|number| number.is_finite())
 }
 
-/// How an accepted answer and the state after it differ from the Rust's.
-pub fn difference(answer: &Answer, state: &State, setpoint: &Setpoint, theirs: &State) -> &'static str {
+/// How an accepted answer and the state after it differ from the Rust's; `tie` says whether document 02's K5 decided the roll.
+pub fn difference(answer: &Answer, state: &State, setpoint: &Setpoint, theirs: &State, tie: bool) -> &'static str {
     let ours: Vec<f32> = match answer {
         Answer::Plane(numbers) | Answer::Waypoint(_, _, numbers) => numbers.to_vec(),
         Answer::Rate(numbers) => numbers.to_vec(),
@@ -104,7 +104,9 @@ pub fn difference(answer: &Answer, state: &State, setpoint: &Setpoint, theirs: &
     };
     let ours = ours.into_iter().chain(state.numbers());
     let rust = rust.into_iter().chain(theirs.numbers());
-    let differing: Vec<(f32, f32)> = ours.zip(rust).filter(|(a, b)| bits(*a) != bits(*b)).collect();
+    // The roll comes first.
+    let differing: Vec<(f32, f32)> =
+        ours.zip(rust).skip(tie as usize).filter(|(a, b)| bits(*a) != bits(*b)).collect();
     if state.energy.underspeed != theirs.energy.underspeed || state.energy.seeded != theirs.energy.seeded {
         "another flag"
     } else if differing.is_empty() {

@@ -7,6 +7,7 @@ use crate::configuration::Numbers;
 use crate::desk::{Form, answer_text, state_text};
 use crate::flown::{Flown, State, counted, judge, validate};
 use crate::guidance::{self, Answer, Vertical};
+use crate::lateral;
 use crate::limits;
 use crate::original;
 use crate::record::{self, Call, Command, Waypoint, bits};
@@ -105,6 +106,10 @@ impl Tally {
             return;
         };
         self.describe_waypoint(w, before, answer.is_ok());
+        if let Some(zero) = lateral::tie(w).filter(|_| answer.is_ok()) {
+            let law = if guidance::finite_leg(w).is_some() { "leg" } else { "tangent" };
+            self.add("ties", format!("{law}, {zero}"));
+        }
     }
 
     fn describe_waypoint(&mut self, w: &Waypoint, before: &State, accepted: bool) {
@@ -160,7 +165,9 @@ impl Tally {
             }
             (Ok(_), Err(_)) => "accepted, the Rust panics".to_string(),
             (Ok(answer), Ok((setpoint, state))) => {
-                format!("accepted, {}", original::difference(answer, &pair.judge.state(), &setpoint, &state))
+                let tie = matches!(command, Command::Waypoint(w) if lateral::tie(w).is_some());
+                let differs = original::difference(answer, &pair.judge.state(), &setpoint, &state, tie);
+                format!("accepted, {}{differs}", if tie { "at a tie, beside the roll " } else { "" })
             }
         };
         self.add("beside the Rust's own min, max and clamp", name);

@@ -77,3 +77,10 @@ pub fn report() -> String {
     }
     out + &farthest.line("arctangent of y, x, each within 30")
 }
+
+/// Whether the arctangent of every f32 above 0 is above 0, the greatest and infinity included.
+pub fn sides() -> String {
+    let all = 1..=f32::INFINITY.to_bits();
+    let above = all.clone().filter(|bits| arithmetic::arctangent(f32::from_bits(*bits)) > 0.0).count();
+    format!("arctangent: {above} of {} numbers above 0 give one above 0\n", all.count())
+}

@@ -4,7 +4,16 @@ use Rattle.laws.proofs.navigation.course.Tie as tie
 
 returns : tie.Need-returns
 unfolding course
-returns c = rw (c .arctangent2 .ensures, c .before .dot .ensures, c .before .before .cross .ensures)
+returns c =
+    let d = c .before in
+    rw (← d .before .cross .ensures, ← d .dot .ensures, c .if1 .taken)
+
+returns-2 : tie.Need-returns-2
+unfolding course
+returns-2 c =
+    let i = c .before in
+    let d = i .before in
+    rw (c .arctangent2 .ensures, ← d .before .cross .ensures, ← d .dot .ensures, i .if1 .left)
 
 pub course-spec : {M : Type 1} → statement M
-course-spec = tie.close (tie.spec (λ c κs. tt) (λ c κs. tt) (λ c κs. tt) returns)
+course-spec = tie.close (tie.spec (λ c κs. tt) (λ c κs. tt) returns (λ c κs. tt) returns-2)
