@@ -137,6 +137,8 @@ typedef struct nuthkolla_answer {
     float pitch;       /* rad; of a plane rate setpoint rad/s */
     float yaw;         /* 0; of a plane rate setpoint rad/s */
     float thrust;      /* 0 to 1 */
+    float cross_track_m; /* of a waypoint the distance off its line, the leg or the loiter's tangent: m, right positive; may be
+                            infinite or NaN; +0 where it is idle or within 1e-3 m of a loiter's centre; else 0 */
     size_t next;       /* the place after the record; 0 where no record was read (refusals 5, 6, 7, 255) */
 } nuthkolla_answer;
 

@@ -32,6 +32,7 @@ pub struct Answer {
     pitch: f32,
     yaw: f32,
     thrust: f32,
+    cross_track_m: f32,
     next: usize,
 }
 

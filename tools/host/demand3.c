@@ -62,7 +62,8 @@ static int same(const nuthkolla_answer *a, const nuthkolla_answer *b)
 {
     return a->refusal == b->refusal && a->field == b->field && a->setpoint == b->setpoint && a->lateral == b->lateral
         && a->vertical == b->vertical && bits(a->roll) == bits(b->roll) && bits(a->pitch) == bits(b->pitch)
-        && bits(a->yaw) == bits(b->yaw) && bits(a->thrust) == bits(b->thrust);
+        && bits(a->yaw) == bits(b->yaw) && bits(a->thrust) == bits(b->thrust)
+        && bits(a->cross_track_m) == bits(b->cross_track_m);
 }
 
 /* ---- what a call is, by its own numbers */

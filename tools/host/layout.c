@@ -70,6 +70,7 @@ int main(void)
     AT(nuthkolla_answer, pitch);
     AT(nuthkolla_answer, yaw);
     AT(nuthkolla_answer, thrust);
+    AT(nuthkolla_answer, cross_track_m);
     AT(nuthkolla_answer, next);
     SIZE(nuthkolla_call);
     AT(nuthkolla_call, kind);

@@ -86,6 +86,7 @@ fn main() {
     at!("nuthkolla_answer.pitch", ffi::Answer, pitch);
     at!("nuthkolla_answer.yaw", ffi::Answer, yaw);
     at!("nuthkolla_answer.thrust", ffi::Answer, thrust);
+    at!("nuthkolla_answer.cross_track_m", ffi::Answer, cross_track_m);
     at!("nuthkolla_answer.next", ffi::Answer, next);
     size!("nuthkolla_call", ffi::Call);
     at!("nuthkolla_call.kind", ffi::Call, kind);

@@ -26,7 +26,8 @@ static void print_answer(FILE *to, unsigned long number, const nuthkolla_answer 
     else if (a->setpoint == NUTHKOLLA_PLANE_RATE)
         fprintf(to, "%lu rate %08x %08x %08x %08x\n", number, bits(a->roll), bits(a->pitch), bits(a->yaw), bits(a->thrust));
     else if (a->lateral != 0)
-        fprintf(to, "%lu %s %s %08x %08x %08x\n", number, lateral[a->lateral], vertical[a->vertical], bits(a->roll), bits(a->pitch), bits(a->thrust));
+        fprintf(to, "%lu %s %s %08x %08x %08x %08x\n", number, lateral[a->lateral], vertical[a->vertical], bits(a->roll),
+                bits(a->pitch), bits(a->thrust), bits(a->cross_track_m));
     else
         fprintf(to, "%lu plane %08x %08x %08x\n", number, bits(a->roll), bits(a->pitch), bits(a->thrust));
 }

@@ -48,7 +48,7 @@ def answer_of(words):
     if first in NUMBERS:
         return Answer(first, words_to_numbers(words[1:], NUMBERS[first]))
     if first in LATERAL and words[1:2] and words[1] in VERTICAL:
-        return Answer("waypoint", words_to_numbers(words[2:], 3), tuple(words[:2]))
+        return Answer("waypoint", words_to_numbers(words[2:], 4), tuple(words[:2]))
     if first == "refused" and len(words) == 2 and words[1] in ("2", "3", "4"):
         return Answer("refused", refusal=int(words[1]))
     raise ValueError("this is no line of the desk program")

@@ -40,6 +40,7 @@ SECTIONS = {
     "records": [*(f"call stopped {number}" for number in (5, 6, 7)), *(f"configuration stopped {number}" for number in (5, 6))],
 }
 SECTIONS["ties"] = [f"{law}, {zero}" for law in ("leg", "tangent") for zero in ("+0", "-0")]
+SECTIONS["distances"] = ["idle, zero", *(f"{law}, {side}" for law in ("track", "loiter") for side in ("NaN", "infinite", "zero", "right", "left"))]
 BESIDE = "beside the Rust's own min, max and clamp"
 
 

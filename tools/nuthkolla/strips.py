@@ -51,6 +51,12 @@ def setpoint(at, shown):
     return number
 
 
+def distance(moment):
+    """Metres off the leg or the loiter's tangent, of a waypoint's answer that is not idle."""
+    bits = moment.answer.numbers[3] if moment.law and not moment.idle else None
+    return value(bits) if bits is not None and is_finite(bits) else None
+
+
 def no_limits(of, moment):
     return None
 
@@ -75,6 +81,7 @@ STRIPS = [
     Strip("roll", "Roll, degrees, right (starboard) is positive", "°", True, setpoint(0, math.degrees), roll_limits),
     Strip("pitch", "Pitch, degrees, nose up is positive", "°", True, setpoint(1, math.degrees), pitch_limits),
     Strip("thrust", "Thrust, share of full thrust", "", True, setpoint(2, float), thrust_limits),
+    Strip("off", "Off the line, metres, right of it (starboard) is positive", " m", True, distance),
     Strip(
         "height",
         "Height, metres",

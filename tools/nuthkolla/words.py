@@ -66,9 +66,17 @@ def thrust_words(bits):
     return f"thrust {share * 100:.0f} %" if math.isfinite(share) else "thrust not a number"
 
 
+def distance_words(bits):
+    """Metres off the line, right positive."""
+    words = turned(bits, " m", "on", "to port", "to starboard", scale=float)
+    told = {"on": "on the line", "not a number": "distance off the line not a number"}
+    return told.get(words, f"{words} of the line")
+
+
 def plane_words(numbers):
-    roll, pitch, thrust = numbers
-    return ", ".join([bank_words(roll), nose_words(pitch), thrust_words(thrust)])
+    """A plane setpoint, and what follows it."""
+    words = [bank_words(numbers[0]), nose_words(numbers[1]), thrust_words(numbers[2])]
+    return ", ".join(words + [distance_words(bits) for bits in numbers[3:4]])
 
 
 def rate_words(numbers):
@@ -89,7 +97,9 @@ def answer_words(answer):
         return refused_words(answer.refusal)
     if answer.kind == "rate":
         return rate_words(answer.numbers)
-    return plane_words(answer.numbers) if answer.numbers else ""
+    # An idle answer has a line of no length, or too little speed: its distance is none.
+    numbers = answer.numbers[:3] if answer.laws[:1] == ("idle",) else answer.numbers
+    return plane_words(numbers) if numbers else ""
 
 
 def call_words(call, answer):

@@ -17,7 +17,7 @@ A row is 53 u32 words, low byte first. Numbers are their bits, every NaN 7fc0000
     34      the refusal's number, of 7 and 8 the failing field's, or 0
     35, 36  laws: 1 track, 2 loiter, 3 idle; 1 energy, 2 hold, 3 fallback; 0 none
     37      1 plane setpoint, 2 rate setpoint, 0 none
-    38..41  the setpoint's numbers
+    38..41  the setpoint's numbers; of a waypoint its distance off the line too
     42..52  the state after it: requested regime; altitude integral; seeded; slewed height, height, airspeed demand; filtered
             airspeed, steady acceleration; pitch integral, thrust integral; underspeed
 """
@@ -37,14 +37,14 @@ LATERAL = {"track": 1, "loiter": 2, "idle": 3}
 VERTICAL = {"energy": 1, "hold": 2, "fallback": 3}
 FRESH = [1] + [0] * 10
 
-# The lines of calls, by file and call number.
+# The lines of calls, by file and call number; without the distance off the line where `off` has such.
 FIGURES = {
-    ("airspeed-1e30", 1): "idle energy 00000000 0f181e3a 3e4ccccd",
+    ("airspeed-1e30", 1): "idle energy 00000000 0f181e3a 3e4ccccd 00000000",
     ("airspeed-1e30-weight-0", 1): "refused 4",
     ("desk-example", 1): "plane 00000000 00000000 00000000",
     ("desk-example", 2): "plane 3f800000 bf000000 3f800000",
     ("desk-example", 3): "refused 2",
-    ("desk-example", 4): "idle hold 00000000 00000000 3f000000",
+    ("desk-example", 4): "idle hold 00000000 00000000 3f000000 00000000",
     ("ties-by-hand", 1): "track fallback 80000000 00000000 3f000000",  # on the line and along it
     # document 02, K5: straight back turns right, at the default bank of 45 degrees, for either zero
     **{("ties-by-hand", n): "track fallback 3f490fdb 00000000 3f000000" for n in (*range(2, 13), 32, 33, 34, 35, 38)},
@@ -151,8 +151,10 @@ def recording(path, is_list):
     for number, (line, after) in enumerate(zip(lines, states, strict=True), 1):
         if name == "idle" and line.split()[1] != by_hand.IDLE[number - 1][0]:
             sys.exit(f"guidance.py: {name} has '{line}' where {by_hand.IDLE[number - 1]} is known")
+        if name == "off" and line.split()[-1] != by_hand.OFF[number - 1][0]:
+            sys.exit(f"guidance.py: {name} has '{line}' where {by_hand.OFF[number - 1]} is known")
         figure = FIGURES.get((name, number))
-        if figure is not None and line != f"{number} {figure}":
+        if figure is not None and not f"{line} ".startswith(f"{number} {figure} "):
             sys.exit(f"guidance.py: {name} has '{line}' where '{figure}' is known")
         tag = data[at] if is_list else 0
         at += 1 if is_list else 0

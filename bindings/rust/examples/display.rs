@@ -30,7 +30,10 @@ fn line(answer: &Answer) -> String {
     };
     match answer.setpoint {
         None => "prime".to_string(),
-        Some(Setpoint::Plane(s)) => format!("{kind} {:08x} {:08x} {:08x}", bits(s.roll_rad), bits(s.pitch_rad), bits(s.thrust)),
+        Some(Setpoint::Plane(s)) => {
+            let off = answer.cross_track_m.map_or(String::new(), |m| format!(" {:08x}", bits(m)));
+            format!("{kind} {:08x} {:08x} {:08x}{off}", bits(s.roll_rad), bits(s.pitch_rad), bits(s.thrust))
+        }
         Some(Setpoint::PlaneRate(s)) => {
             format!("rate {:08x} {:08x} {:08x} {:08x}", bits(s.roll_radps), bits(s.pitch_radps), bits(s.yaw_radps), bits(s.thrust))
         }

@@ -35,6 +35,7 @@ pub struct Answer {
     pub pitch: f32,
     pub yaw: f32,
     pub thrust: f32,
+    pub cross_track_m: f32,
     pub next: usize,
 }
 

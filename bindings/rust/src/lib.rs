@@ -115,7 +115,9 @@ impl PlaneGuidance {
     /// Refusals 5, 6 and 7 of the record, then 2, 3 and 4.
     pub fn call_record(&mut self, record: &[u8]) -> Result<Answer, Refusal> {
         let answer = self.run(ffi::CALL, record)?;
-        Ok(Answer { setpoint: setpoint_of(&answer), laws: laws_of(&answer), next: answer.next })
+        let laws = laws_of(&answer);
+        let cross_track_m = laws.map(|_| answer.cross_track_m);
+        Ok(Answer { setpoint: setpoint_of(&answer), laws, cross_track_m, next: answer.next })
     }
 
     /// Sets the configuration; integrals and demands stay.

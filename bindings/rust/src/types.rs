@@ -307,11 +307,14 @@ pub struct Laws {
     pub vertical: VerticalLaw,
 }
 
-/// The answer to a call: a guide call's setpoint, with a waypoint's two laws; nothing of a prime.
+/// The answer to a call: a guide call's setpoint, with a waypoint's two laws and distance; nothing of a prime.
 #[derive(Clone, Copy, Debug, PartialEq)]
 pub struct Answer {
     pub setpoint: Option<Setpoint>,
     pub laws: Option<Laws>,
+    /// Of a waypoint the metres off its line, the leg or the loiter's tangent, right positive; it may be infinite or NaN. +0 where
+    /// it is idle or within 1e-3 m of a loiter's centre.
+    pub cross_track_m: Option<f32>,
     /// The place after the record that was read.
     pub next: usize,
 }

@@ -14,7 +14,7 @@ use Rattle.arithmetic.specs.Trigonometry.{sine, folded, cosineOfFolded, cosine,
 use Rattle.laws.specs.Config.{tecsDefault, default, firstFailing, validate}
 use Rattle.laws.specs.Math.{limitOrZero, clampSymmetric, saturateSymmetric, saturateUnit, saturateThrottle, lagged, allFinite}
 use Rattle.laws.specs.Types.{atLeastZero, validAirspeed}
-use Rattle.laws.specs.Navigation.{noCourse, idle, loiterAccel, finiteLeg, lateralAccel, bankForAccel, piPinned, piFinite, piStep}
+use Rattle.laws.specs.Navigation.{noCourse, idle, crossTrack, loiterAccel, finiteLeg, lateralAccel, bankForAccel, piPinned, piFinite, piStep}
 use Rattle.laws.specs.Tecs.{reset, updateUnderspeed, clampAirspeed, seedDemand, previousDemand, slewedHeight, slewedAirspeed, nextDemand, seedFilter, previousFilter, nextFilter, energiesOf, energies, turnRate, feedforward, balancedThrust, thrust, pitchIntegral, pitch, allInputsFinite, hold, energyStep}
 use Rattle.laws.specs.declared.config.TecsConfig.{TecsConfig}
 use Rattle.laws.specs.declared.config.PlaneGuidanceConfig.{PlaneGuidanceConfig}
@@ -391,12 +391,12 @@ unfolding striking freshStarts inForce leavesNoTrace strikesBy sameReplies same 
     refused-slow nimble-slow slow-primed slow-fallen besideFresh ofThatMoment ofTheStart startsRefused startsConfigured thrustObeys third
     replyObeys obeysBy obeys exactly evenRefused fromTheStart primeKeeps fallbackKeeps tecsWith configWith trimmed weak invalid nimble second
     pitchOf withinPlainLimit underspeedAt perform replies refusals unmarked fresh tecsDefault default firstFailing validate limitOrZero
-    clampSymmetric saturateSymmetric saturateUnit saturateThrottle lagged allFinite atLeastZero validAirspeed noCourse idle loiterAccel finiteLeg
+    clampSymmetric saturateSymmetric saturateUnit saturateThrottle lagged allFinite atLeastZero validAirspeed noCourse idle crossTrack loiterAccel finiteLeg
     lateralAccel bankForAccel piPinned piFinite piStep reset updateUnderspeed clampAirspeed seedDemand previousDemand slewedHeight
     slewedAirspeed nextDemand seedFilter previousFilter nextFilter energiesOf energies turnRate feedforward balancedThrust thrust
     pitchIntegral pitch allInputsFinite hold energyStep least greatest clamp finite size rootOf norm normalise sine folded cosineOfFolded
     cosine arctangent Plane.cleared Plane.primed Plane.withConfig Plane.configured Plane.sticks Plane.lateralLaw Plane.onEnergyPath
-    Plane.inputs Plane.verticalLaw Plane.topThrust Plane.limitsOf Plane.rollOf Plane.heightError Plane.fallback Plane.vertical Plane.allFinite
+    Plane.inputs Plane.verticalLaw Plane.topThrust Plane.limitsOf Plane.rollOf Plane.crossTrackOf Plane.heightError Plane.fallback Plane.vertical Plane.allFinite
     Plane.commanded Plane.waypoint Plane.obeyed Plane.guided toBits ofBits le isNan Ieee.add Ieee.sub Ieee.mul Ieee.div Ieee.rem Ieee.lt
     Ieee.eq Ieee.ne Ieee.neg Ieee.round
 computed = (refl, refl, refl)

@@ -14,7 +14,7 @@ use Rattle.laws.specs.declared.types.ControlInput.the-variants as Input
 use Rattle.laws.specs.declared.types.WaypointCommand.{WaypointCommand}
 use Rattle.laws.specs.declared.types.FlightRegime.{FlightRegime}
 use Rattle.laws.specs.declared.types.VehicleState.{VehicleState}
-use Rattle.guidance.specs.Plane.{isWaypoint, created, sticks, rates, absoluteAttitude, absoluteRate, neutral, verticalLaw, vertical, rollOf, allFinite, badTimeStep, badCap, guided, refusalNumber, setpointValues, answerValues}
+use Rattle.guidance.specs.Plane.{isWaypoint, created, sticks, rates, absoluteAttitude, absoluteRate, neutral, verticalLaw, vertical, rollOf, crossTrackOf, allFinite, badTimeStep, badCap, guided, refusalNumber, setpointValues, answerValues}
 use Rattle.guidance.specs.declared.plane.PlaneGuidance.{PlaneGuidance}
 use Rattle.guidance.specs.declared.plane.Created.{Created}
 use Rattle.guidance.specs.declared.plane.Created.the-variants as New
@@ -56,13 +56,13 @@ guideNumber g dt input s cap =
     (cond (wouldBeFinite g dt input s cap) 0
     4))
 
--- the setpoint's numbers, of an accepted call
+-- the setpoint's numbers, of an accepted call; a waypoint's distance off its line too
 abbrev pub acceptedValues : PlaneGuidance → Float → ControlInput → VehicleState → OptionF32 → List Float
 acceptedValues g dt (Input.Attitude k) s cap = setpointValues (sticks (g .config) k)
 acceptedValues g dt (Input.Rate k) s cap = setpointValues (rates (g .config) k)
 acceptedValues g dt (Input.Waypoint w) s cap =
     let v = wouldGive g dt w s cap in
-    rollOf (g .config) w s ∷ v .«pitch_rad» ∷ v .thrust ∷ []
+    rollOf (g .config) w s ∷ v .«pitch_rad» ∷ v .thrust ∷ crossTrackOf (g .config) w s ∷ []
 acceptedValues g dt (Input.AbsoluteAttitude k) s cap = setpointValues (absoluteAttitude k)
 acceptedValues g dt Input.Land s cap = setpointValues neutral
 acceptedValues g dt (Input.AbsoluteRate k) s cap = setpointValues (absoluteRate k)

@@ -1,7 +1,7 @@
 -- The calls on a guidance, plane.rs. Definitions only.
 use Prim.Native.Nat.{ℕ}
 use mathlib.Core.Bool.{Bool, true, false, cond, not, _&&_}
-use mathlib.Core.List.{List, [], _∷_}
+use mathlib.Core.List.{List, [], _∷_, _++_}
 use lib.Dec.{eqb}
 use lib.Ieee as Ieee
 use lib.Ieee.{Float, neg}
@@ -11,7 +11,7 @@ use Rattle.arithmetic.specs.declared.vector.Vec2.{Vec2}
 use Rattle.laws.specs.Config.{checkPositive, validate}
 use Rattle.laws.specs.Math.{clampSymmetric, saturateUnit, saturateThrottle}
 use Rattle.laws.specs.Types.{validAirspeed}
-use Rattle.laws.specs.Navigation.{finiteLeg, lateralAccel, idle, bankForAccel, piStep}
+use Rattle.laws.specs.Navigation.{finiteLeg, lateralAccel, idle, crossTrack, bankForAccel, piStep}
 use Rattle.laws.specs.Tecs.{reset, allInputsFinite, hold, energyStep, flag}
 use Rattle.laws.specs.declared.config.PlaneGuidanceConfig.{PlaneGuidanceConfig}
 use Rattle.laws.specs.declared.navigation.PiLoop.{PiLoop}
@@ -208,9 +208,15 @@ rollOf c w s =
     in
     clampSymmetric (bankForAccel (lateral .«accel_mps2»)) (c .«max_bank_rad»)
 
+-- the distance off its line (document 02, K6)
+unfoldable pub crossTrackOf : PlaneGuidanceConfig → WaypointCommand → VehicleState → Float
+crossTrackOf c w s =
+    crossTrack (finiteLeg (w .«velocity_mps»)) (northEast (s .«position_m»)) (northEast (s .«velocity_mps»)) (w .«position_m»)
+    (c .«loiter_radius_m»)
+
 -- what the lateral law answers
 abbrev pub steered : PlaneGuidanceConfig → WaypointCommand → VehicleState → Steered
-steered c w s = record { law = lateralLaw w s; «roll_rad» = rollOf c w s }
+steered c w s = record { law = lateralLaw w s; «roll_rad» = rollOf c w s; «cross_track_m» = crossTrackOf c w s }
 
 -- energy path: the altitude loop is cleared
 abbrev pub onPath : TecsResult → Vertical
@@ -279,6 +285,7 @@ flown g regime lateral law v = record {
   answer = Waypoint (record {
     setpoint = Set.Plane (lateral .«roll_rad») (v .«pitch_rad») (v .thrust);
     laws = record { lateral = lateral .law; vertical = law };
+    «cross_track_m» = lateral .«cross_track_m»;
   });
 }
 
@@ -320,4 +327,4 @@ setpointValues (Set.PlaneRate roll pitch yaw thrust) = roll ∷ pitch ∷ yaw �
 abbrev pub answerValues : Answer → List Float
 answerValues (Refused n) = []
 answerValues (Commanded s) = setpointValues s
-answerValues (Waypoint a) = setpointValues (a .setpoint)
+answerValues (Waypoint a) = setpointValues (a .setpoint) ++ (a .«cross_track_m» ∷ [])

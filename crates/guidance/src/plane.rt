@@ -37,9 +37,11 @@ pub struct Laws {
     pub vertical: VerticalLaw,
 }
 
+// `cross_track_m` is the distance off the line, in metres, right positive; it may be not finite.
 pub struct WaypointAnswer {
     pub setpoint: Setpoint,
     pub laws: Laws,
+    pub cross_track_m: f32,
 }
 
 // The answer to a guide call: refused with its number, the setpoint of a command other than a waypoint, or a waypoint's.
@@ -64,6 +66,7 @@ pub struct Configured {
 pub struct Steered {
     pub law: LateralLaw,
     pub roll_rad: f32,
+    pub cross_track_m: f32,
 }
 
 // What a vertical law would answer and store; a refusal with number 4 stores none of it.

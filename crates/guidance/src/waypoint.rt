@@ -150,7 +150,7 @@ fn north_east(v: Vec3) -> Vec2
     Vec2 { x: v.x, y: v.y }
 }
 
-// The name of the lateral law, by what the law answers, and its bank.
+// The name of the lateral law, by what the law answers, its bank and the distance off its line.
 fn steered(config: PlaneGuidanceConfig, w: WaypointCommand, state: VehicleState) -> Steered
     ensures { λ r. ⌜ r ≡ spec.steered config w state ⌝ }
 {
@@ -171,6 +171,7 @@ fn steered(config: PlaneGuidanceConfig, w: WaypointCommand, state: VehicleState)
     Steered {
         law: lateral_of(lateral.idle, leg),
         roll_rad: clamp_symmetric(bank_for_accel_rad(lateral.accel_mps2), config.max_bank_rad),
+        cross_track_m: lateral.cross_track_m,
     }
 }
 
@@ -308,7 +309,11 @@ fn flown(
             altitude,
             tecs,
         },
-        answer: Answer::Waypoint(WaypointAnswer { setpoint, laws }),
+        answer: Answer::Waypoint(WaypointAnswer {
+            setpoint,
+            laws,
+            cross_track_m: lateral.cross_track_m,
+        }),
     }
 }
 

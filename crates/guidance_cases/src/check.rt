@@ -80,7 +80,10 @@ fn answer_right(row: &[u8; 212], answer: Answer) -> bool {
         Answer::Waypoint(a) => {
             let laws = a.laws;
             let setpoint = a.setpoint;
-            (word(row, 34) == 0) & laws_right(row, laws) & setpoint_right(row, setpoint)
+            (word(row, 34) == 0)
+                & laws_right(row, laws)
+                & setpoint_right(row, setpoint)
+                & same(row, 41, a.cross_track_m)
         }
     }
 }

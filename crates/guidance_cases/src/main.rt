@@ -90,6 +90,7 @@ fn main() {
     total = try_group(b"desk_example", total);
     total = try_group(b"holds", total);
     total = try_group(b"idle", total);
+    total = try_group(b"off", total);
     total = try_group(b"refusals", total);
     total = try_group(b"speed_demand", total);
     total = try_group(b"sticks", total);

@@ -2,6 +2,7 @@
 use Prim.Native.Nat.{ℕ}
 use mathlib.Core.Bool.{cond}
 use lib.Dec.{eqb}
+use lib.Ieee.{Float}
 use Rattle.arithmetic.specs.Constants.{n0}
 use Rattle.laws.specs.declared.types.Setpoint.{Setpoint}
 use Rattle.laws.specs.declared.types.Setpoint.the-variants as Set
@@ -26,6 +27,7 @@ bare refusal failing next = record {
   pitch = n0;
   yaw = n0;
   thrust = n0;
+  «cross_track_m» = n0;
   next = next;
 }
 
@@ -42,8 +44,8 @@ verticalNumber Hold = 2
 verticalNumber Fallback = 3
 
 -- 1 plane setpoint: roll, pitch, thrust; 2 plane rate setpoint: roll, pitch, yaw, thrust
-abbrev pub ofSetpoint : Setpoint → ℕ → ℕ → ℕ → RunAnswer
-ofSetpoint (Set.Plane roll pitch thrust) lateral vertical next = record {
+abbrev pub ofSetpoint : Setpoint → ℕ → ℕ → Float → ℕ → RunAnswer
+ofSetpoint (Set.Plane roll pitch thrust) lateral vertical off next = record {
   refusal = 0;
   field = 0;
   setpoint = 1;
@@ -53,9 +55,10 @@ ofSetpoint (Set.Plane roll pitch thrust) lateral vertical next = record {
   pitch = pitch;
   yaw = n0;
   thrust = thrust;
+  «cross_track_m» = off;
   next = next;
 }
-ofSetpoint (Set.PlaneRate roll pitch yaw thrust) lateral vertical next = record {
+ofSetpoint (Set.PlaneRate roll pitch yaw thrust) lateral vertical off next = record {
   refusal = 0;
   field = 0;
   setpoint = 2;
@@ -65,14 +68,16 @@ ofSetpoint (Set.PlaneRate roll pitch yaw thrust) lateral vertical next = record 
   pitch = pitch;
   yaw = yaw;
   thrust = thrust;
+  «cross_track_m» = off;
   next = next;
 }
 
--- a refusal with its number; a setpoint; a waypoint's setpoint with its two laws
+-- a refusal with its number; a setpoint; a waypoint's setpoint with its two laws and the distance off its line, else +0
 abbrev pub ofAnswer : Answer → ℕ → RunAnswer
 ofAnswer (Refused n) next = bare n 0 next
-ofAnswer (Commanded s) next = ofSetpoint s 0 0 next
-ofAnswer (Waypoint a) next = ofSetpoint (a .setpoint) (lateralNumber (a .laws .lateral)) (verticalNumber (a .laws .vertical)) next
+ofAnswer (Commanded s) next = ofSetpoint s 0 0 n0 next
+ofAnswer (Waypoint a) next =
+    ofSetpoint (a .setpoint) (lateralNumber (a .laws .lateral)) (verticalNumber (a .laws .vertical)) (a .«cross_track_m») next
 
 -- number 1 with its field, where a field fails
 unfoldable pub ofField : ℕ → ℕ → RunAnswer

@@ -10,7 +10,8 @@ ghost use Rattle.host_answers.specs.Answer as spec;
 
 // refusal: 0 or the refusal's number; field: of number 1, the failing field; setpoint: 0 none, 1 plane, 2 plane rate;
 // lateral: 0 none, 1 track, 2 loiter, 3 idle; vertical: 0 none, 1 energy, 2 hold, 3 fallback; yaw is +0 in a plane setpoint;
-// next: the place after the record, 0 where no record was read.
+// cross_track_m: of a waypoint the distance off its line, right positive, else +0; next: the place after the record, 0 where
+// no record was read.
 #[repr(C)]
 pub struct RunAnswer {
     pub refusal: u32,
@@ -22,6 +23,7 @@ pub struct RunAnswer {
     pub pitch: f32,
     pub yaw: f32,
     pub thrust: f32,
+    pub cross_track_m: f32,
     pub next: usize,
 }
 
@@ -39,6 +41,7 @@ pub fn bare(refusal: u32, field: u32, next: usize) -> RunAnswer
         pitch: 0.0,
         yaw: 0.0,
         thrust: 0.0,
+        cross_track_m: 0.0,
         next,
     }
 }
@@ -63,8 +66,14 @@ fn vertical_number(law: VerticalLaw) -> u32
     }
 }
 
-fn of_setpoint(setpoint: Setpoint, lateral: u32, vertical: u32, next: usize) -> RunAnswer
-    ensures { λ r. ⌜ r ≡ spec.ofSetpoint setpoint lateral vertical next ⌝ }
+fn of_setpoint(
+    setpoint: Setpoint,
+    lateral: u32,
+    vertical: u32,
+    cross_track_m: f32,
+    next: usize,
+) -> RunAnswer
+    ensures { λ r. ⌜ r ≡ spec.ofSetpoint setpoint lateral vertical «cross_track_m» next ⌝ }
 {
     match setpoint {
         Setpoint::Plane {
@@ -81,6 +90,7 @@ fn of_setpoint(setpoint: Setpoint, lateral: u32, vertical: u32, next: usize) -> 
             pitch: pitch_rad,
             yaw: 0.0,
             thrust,
+            cross_track_m,
             next,
         },
         Setpoint::PlaneRate {
@@ -98,6 +108,7 @@ fn of_setpoint(setpoint: Setpoint, lateral: u32, vertical: u32, next: usize) -> 
             pitch: pitch_radps,
             yaw: yaw_radps,
             thrust,
+            cross_track_m,
             next,
         },
     }
@@ -108,7 +119,7 @@ pub fn of_answer(answer: Answer, next: usize) -> RunAnswer
 {
     match answer {
         Answer::Refused(n) => bare(n, 0, next),
-        Answer::Commanded(setpoint) => of_setpoint(setpoint, 0, 0, next),
+        Answer::Commanded(setpoint) => of_setpoint(setpoint, 0, 0, 0.0, next),
         Answer::Waypoint(w) => {
             let setpoint = w.setpoint;
             let laws = w.laws;
@@ -118,6 +129,7 @@ pub fn of_answer(answer: Answer, next: usize) -> RunAnswer
                 setpoint,
                 lateral_number(lateral),
                 vertical_number(vertical),
+                w.cross_track_m,
                 next,
             )
         }

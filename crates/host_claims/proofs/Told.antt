@@ -4,7 +4,9 @@ use mathlib.Core.Path.{_≡_, refl, sym, ap, subst, _∙_}
 use mathlib.Core.Bool.{Bool, true, false, cond, not}
 use mathlib.Core.List.{List, [], _∷_, _++_}
 use lib.Dec.{eqb}
+use lib.Ieee.{Float}
 use borrow.Author.Tests.{eqb-true}
+use Rattle.arithmetic.specs.Constants.{n0}
 use Rattle.laws.specs.declared.config.PlaneGuidanceConfig.{PlaneGuidanceConfig}
 use Rattle.laws.specs.declared.types.Setpoint.{Setpoint}
 use Rattle.laws.specs.declared.types.Setpoint.the-variants as Set
@@ -74,15 +76,15 @@ run-is g i = go (eqb (i .what) 0) (eqb (i .what) 1) (eqb (i .what) 2)
     go false false false = refl
 
 -- the host sees a refusal where the reply is one
-setpoint-accepted : (t : Setpoint) (lateral vertical next : ℕ) → ofSetpoint t lateral vertical next .refusal ≡ 0
-setpoint-accepted (Set.Plane roll pitch thrust) lateral vertical next = refl
-setpoint-accepted (Set.PlaneRate roll pitch yaw thrust) lateral vertical next = refl
+setpoint-accepted : (t : Setpoint) (lateral vertical : ℕ) (off : Float) (next : ℕ) → ofSetpoint t lateral vertical off next .refusal ≡ 0
+setpoint-accepted (Set.Plane roll pitch thrust) lateral vertical off next = refl
+setpoint-accepted (Set.PlaneRate roll pitch yaw thrust) lateral vertical off next = refl
 
 pub refused-is : (r : Reply) (next : ℕ) → refused (ofReply r next) ≡ calls.refused r
 unfolding bare ofField
 refused-is (answered (Refused n)) next = refl
-refused-is (answered (Commanded t)) next = ap (λ (n : ℕ). not (eqb n 0)) (setpoint-accepted t 0 0 next)
-refused-is (answered (Waypoint a)) next = ap (λ (n : ℕ). not (eqb n 0)) (setpoint-accepted (a .setpoint) _ _ next)
+refused-is (answered (Commanded t)) next = ap (λ (n : ℕ). not (eqb n 0)) (setpoint-accepted t 0 0 n0 next)
+refused-is (answered (Waypoint a)) next = ap (λ (n : ℕ). not (eqb n 0)) (setpoint-accepted (a .setpoint) _ _ _ next)
 refused-is done next = refl
 refused-is (field n) next = go (eqb n 0)
   where

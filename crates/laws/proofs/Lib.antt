@@ -1,5 +1,6 @@
 -- Laws about the definitions, for this crate's proofs and for crates above.
 pub mod Idle
+pub mod OffLine
 pub mod Plus
 pub mod Starred
 pub mod Steering

@@ -54,7 +54,7 @@ noCourse speed = isNan speed || Ieee.lt speed n1
 
 -- where a law gives up: wings level
 abbrev pub level : Bool → Lateral
-level idle = record { «accel_mps2» = n0; idle = idle }
+level idle = record { «accel_mps2» = n0; «cross_track_m» = n0; idle = idle }
 
 -- the L1 distance and the gain 4ζ² for a ground speed
 unfoldable pub l1 : Float → Float → Float → L1Gains
@@ -87,7 +87,7 @@ trackAlong position velocity point direction speed period damping =
     let gains = l1 speed period damping in
     let eta = steeredRad position velocity point direction (gains .«distance_m») in
     let accel = gains .gain ·ᶠ speed ·ᶠ speed /ᶠ gains .«distance_m» ·ᶠ sine eta in
-    record { «accel_mps2» = choose (finite accel) accel n0; idle = false }
+    record { «accel_mps2» = choose (finite accel) accel n0; «cross_track_m» = cross direction (difference position point); idle = false }
 
 -- by the leg's normalised direction: none, a leg of length up to 1e-6, gives 0 and is idle, as no course does
 unfoldable pub trackBy : Vec2 → Vec2 → Vec2 → Float → Float → Normalised → Lateral
@@ -111,10 +111,14 @@ centripetal speed radius = speed ·ᶠ speed /ᶠ radius
 -- circle's nearest point, and centripetal added
 unfoldable pub loiterBy : Vec2 → Vec2 → Vec2 → Float → Float → Float → Normalised → Lateral
 loiterBy position velocity center radius period damping None =
-    record { «accel_mps2» = centripetal (norm velocity) radius; idle = false }
+    record { «accel_mps2» = centripetal (norm velocity) radius; «cross_track_m» = n0; idle = false }
 loiterBy position velocity center radius period damping (Parts outward) =
     let tracked = trackAccel position velocity (along center outward radius) (rightOf outward) period damping in
-    record { «accel_mps2» = centripetal (norm velocity) radius +ᶠ tracked .«accel_mps2»; idle = false }
+    record {
+      «accel_mps2» = centripetal (norm velocity) radius +ᶠ tracked .«accel_mps2»;
+      «cross_track_m» = tracked .«cross_track_m»;
+      idle = false;
+    }
 
 -- clockwise around the centre; no course, or a radius that is NaN or not above 0: 0, idle without a course
 unfoldable pub loiterAccel : Vec2 → Vec2 → Vec2 → Float → Float → Float → Lateral
@@ -144,6 +148,26 @@ shortLeg (Leg.Some leg) = Ieee.le (norm leg) leastLeg
 -- or the ground speed is below 1.0 or NaN
 unfoldable pub idle : OptionVec2 → Vec2 → Bool
 idle leg velocity = shortLeg leg || noCourse (norm velocity)
+
+-- ---- distance off the line, document 02's K6: metres, right positive
+
+-- the cross product of normalised leg and position minus its waypoint; +0 for a short leg
+abbrev pub offLine : Vec2 → Vec2 → Normalised → Float
+offLine position point None = n0
+offLine position point (Parts direction) = cross direction (difference position point)
+
+-- off a loiter's tangent line, by the direction outward from the centre; +0 within 1e-3 of it
+abbrev pub offTangent : Vec2 → Vec2 → Float → Normalised → Float
+offTangent position center radius None = n0
+offTangent position center radius (Parts outward) = offLine position (along center outward radius) (normalise (rightOf outward) leastLeg)
+
+-- +0 also for a ground speed below 1.0 or NaN, and for a radius that is NaN or not above 0
+unfoldable pub crossTrack : OptionVec2 → Vec2 → Vec2 → Vec2 → Float → Float
+crossTrack Leg.None position velocity point radius =
+    cond (noCourse (norm velocity) || isNan radius || Ieee.le radius n0) n0
+    (offTangent position point radius (normalise (difference position point) leastOffset))
+crossTrack (Leg.Some leg) position velocity point radius =
+    cond (noCourse (norm velocity)) n0 (offLine position point (normalise leg leastLeg))
 
 -- ---- bank
 

@@ -31,9 +31,11 @@ const MIN_GROUND_SPEED_MPS: f32 = 1.0;
 
 const MAX_CAPTURE_RAD: f32 = FRAC_PI_4;
 
-// What a lateral law answers: the acceleration in m/s², right positive; idle where it gave up for want of a leg or a course.
+// What a lateral law answers: the acceleration in m/s² and the distance off its line in m, both right positive; idle where
+// it gave up for want of a leg or a course.
 pub struct Lateral {
     pub accel_mps2: f32,
+    pub cross_track_m: f32,
     pub idle: bool,
 }
 
@@ -136,6 +138,7 @@ fn track_along(
     let accel = gains.gain * speed_mps * speed_mps / gains.distance_m * sine(eta_rad);
     Lateral {
         accel_mps2: choose(is_finite(accel), accel, 0.0),
+        cross_track_m,
         idle: false,
     }
 }
@@ -155,6 +158,7 @@ fn track_to(
     match normalise(direction, 1e-6) {
         Normalised::None => Lateral {
             accel_mps2: 0.0,
+            cross_track_m: 0.0,
             idle: true,
         },
         Normalised::Parts(d) => {
@@ -224,6 +228,7 @@ fn with_centripetal(leg: OptionVec2, speed_mps: f32, radius_m: f32, tracked: Lat
     match leg {
         OptionVec2::None => Lateral {
             accel_mps2: centripetal(speed_mps, radius_m) + tracked.accel_mps2,
+            cross_track_m: tracked.cross_track_m,
             idle: false,
         },
         OptionVec2::Some(_) => tracked,
@@ -259,6 +264,7 @@ fn steer(
         }
         Aim::Center => Lateral {
             accel_mps2: centripetal(speed_mps, radius_m),
+            cross_track_m: 0.0,
             idle: false,
         },
     }
@@ -282,6 +288,7 @@ pub fn lateral_accel_mps2(
     if idle | bad_radius(leg, radius_m) {
         return Lateral {
             accel_mps2: 0.0,
+            cross_track_m: 0.0,
             idle,
         };
     }

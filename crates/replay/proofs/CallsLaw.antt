@@ -8,6 +8,7 @@ use native.Mathlib.Nat.{add-zero}
 use lib.Dec.{eqb, leb}
 use borrow.Author.Tests.{le-leb, lt-leb, leb-true, leb-false}
 use lib.ListN.{length, length-append}
+use lib.Ieee.{Float}
 use Rattle.laws.specs.Config.{validate}
 use Rattle.laws.specs.declared.config.PlaneGuidanceConfig.{PlaneGuidanceConfig}
 use Rattle.laws.specs.declared.types.Setpoint.{Setpoint}
@@ -32,7 +33,7 @@ use Rattle.lines.specs.Line.{text}
 use Rattle.lines.proofs.TextLaw.{text-short}
 use Rattle.replay.specs.declared.turn.CallLine.{CallLine}
 use Rattle.replay.specs.Recording.{Calls, noCalls, onRead, readCalls, stops, recording}
-use Rattle.replay.specs.Text.{refusedLine, stoppedLine, primeLine, setpointLine, answerLine, replyLine, callLines, runLines, recordingLines, linesText, recordingText}
+use Rattle.replay.specs.Text.{refusedLine, stoppedLine, primeLine, setpointLine, waypointLine, answerLine, replyLine, callLines, runLines, recordingLines, linesText, recordingText}
 use Rattle.replay.specs.code.Performed.{callLine}
 use Rattle.replay.specs.code.Pass.{Prints, callsText}
 use Rattle.replay.proofs.PrintLaw.{Printed, printed-none, printed-room, printed-more, printed-all, printed-last, last-room}
@@ -69,11 +70,16 @@ unfolding setpointLine
 setpoint-count n a b (Set.Plane roll pitch thrust) = omega arith
 setpoint-count n a b (Set.PlaneRate roll pitch yaw thrust) = omega arith
 
+waypoint-count : (n : ℕ) (a b : Word) (s : Setpoint) (off : Float) → waypointLine n a b s off .count ≤ 4
+unfolding waypointLine
+waypoint-count n a b (Set.Plane roll pitch thrust) off = omega arith
+waypoint-count n a b (Set.PlaneRate roll pitch yaw thrust) off = omega arith
+
 answer-count : (n : ℕ) (a : Answer) → answerLine n a .count ≤ 4
 unfolding answerLine refusedLine
 answer-count n (Answered.Refused r) = omega arith
 answer-count n (Answered.Commanded s) = setpoint-count n _ _ s
-answer-count n (Answered.Waypoint a) = setpoint-count n _ _ (a .setpoint)
+answer-count n (Answered.Waypoint a) = waypoint-count n _ _ (a .setpoint) _
 
 reply-count : (n : ℕ) (r : Reply) → replyLine n r .count ≤ 4
 unfolding replyLine primeLine refusedLine

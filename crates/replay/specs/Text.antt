@@ -53,6 +53,13 @@ setpointLine n a b (Set.Plane roll pitch thrust) =
 setpointLine n a b (Set.PlaneRate roll pitch yaw thrust) =
     record { number = n; first = a; second = b; refusal = 0; values = bits roll ∷ bits pitch ∷ bits yaw ∷ bits thrust ∷ []; count = 4 }
 
+-- a waypoint's: roll, pitch, thrust, and the distance off the line (document 02, K6); no waypoint answers a rate setpoint
+unfoldable pub waypointLine : ℕ → Word → Word → Setpoint → Float → Line
+waypointLine n a b (Set.Plane roll pitch thrust) off =
+    record { number = n; first = a; second = b; refusal = 0; values = bits roll ∷ bits pitch ∷ bits thrust ∷ bits off ∷ []; count = 4 }
+waypointLine n a b (Set.PlaneRate roll pitch yaw thrust) off =
+    record { number = n; first = a; second = b; refusal = 0; values = bits roll ∷ bits pitch ∷ bits yaw ∷ bits thrust ∷ []; count = 4 }
+
 abbrev pub kindWord : Setpoint → Word
 kindWord (Set.Plane roll pitch thrust) = word.Plane
 kindWord (Set.PlaneRate roll pitch yaw thrust) = word.Rate
@@ -71,7 +78,8 @@ verticalWord Vertical.Fallback = word.Fallback
 unfoldable pub answerLine : ℕ → Answer → Line
 answerLine n (Answered.Refused r) = refusedLine n r
 answerLine n (Answered.Commanded s) = setpointLine n (kindWord s) word.None s
-answerLine n (Answered.Waypoint a) = setpointLine n (lateralWord (a .laws .lateral)) (verticalWord (a .laws .vertical)) (a .setpoint)
+answerLine n (Answered.Waypoint a) =
+    waypointLine n (lateralWord (a .laws .lateral)) (verticalWord (a .laws .vertical)) (a .setpoint) (a .«cross_track_m»)
 
 -- no record of a recording's calls sets a configuration, so no reply is a field
 unfoldable pub replyLine : ℕ → Reply → Line

@@ -88,6 +88,55 @@ fn setpoint_line(number: u32, first: Word, second: Word, setpoint: Setpoint) -> 
     }
 }
 
+// A waypoint's: the setpoint's numbers and the distance off the line.
+fn waypoint_line(
+    number: u32,
+    first: Word,
+    second: Word,
+    setpoint: Setpoint,
+    cross_track_m: f32,
+) -> Line
+    ensures { λ r. ⌜ r ≡ spec.waypointLine number first second setpoint «cross_track_m» ⌝ }
+{
+    match setpoint {
+        Setpoint::Plane {
+            roll_rad,
+            pitch_rad,
+            thrust,
+        } => Line {
+            number,
+            first,
+            second,
+            refusal: 0,
+            values: [
+                to_bits(roll_rad),
+                to_bits(pitch_rad),
+                to_bits(thrust),
+                to_bits(cross_track_m),
+            ],
+            count: 4,
+        },
+        Setpoint::PlaneRate {
+            roll_radps,
+            pitch_radps,
+            yaw_radps,
+            thrust,
+        } => Line {
+            number,
+            first,
+            second,
+            refusal: 0,
+            values: [
+                to_bits(roll_radps),
+                to_bits(pitch_radps),
+                to_bits(yaw_radps),
+                to_bits(thrust),
+            ],
+            count: 4,
+        },
+    }
+}
+
 fn kind_word(setpoint: Setpoint) -> Word
     ensures { λ r. ⌜ r ≡ spec.kindWord setpoint ⌝ }
 {
@@ -142,11 +191,12 @@ fn answer_line(number: u32, answer: Answer) -> Line
             let laws = a.laws;
             let lateral = laws.lateral;
             let vertical = laws.vertical;
-            setpoint_line(
+            waypoint_line(
                 number,
                 lateral_word(lateral),
                 vertical_word(vertical),
                 setpoint,
+                a.cross_track_m,
             )
         }
     }

@@ -82,6 +82,30 @@ IDLE = [
 ]
 
 
+# Document 02's K6, by hand: metres off the line, as bits, what makes them so, and the call. The default radius is 40 m.
+OFF = [
+    ("40a00000", "5 m right of a north leg", dict(leg=[1.0, 0.0], position=[50.0, 5.0], velocity=[16.0, 0.0])),
+    ("c0a00000", "5 m left of a north leg", dict(leg=[1.0, 0.0], position=[50.0, -5.0], velocity=[16.0, 0.0])),
+    ("40a00000", "the leg has any length", dict(leg=[100.0, 0.0], position=[50.0, 5.0], velocity=[16.0, 0.0])),
+    ("40a00000", "from the waypoint", dict(point=[7.0, 3.0], leg=[1.0, 0.0], position=[50.0, 8.0], velocity=[16.0, 0.0])),
+    ("40a00000", "right of a west leg is north", dict(leg=[0.0, -2.0], position=[5.0, 7.0], velocity=[16.0, 0.0])),
+    ("c2700000", "60 m outside a loiter, left of its tangent", dict(position=[100.0, 0.0], velocity=[0.0, 16.0])),
+    ("41f00000", "30 m inside a loiter", dict(position=[10.0, 0.0], velocity=[0.0, 16.0])),
+    ("c2700000", "a loiter from its waypoint", dict(point=[9.0, 2.0], position=[9.0, 102.0], velocity=[0.0, 16.0])),
+    ("00000000", "within 1e-3 of the centre", dict(position=[0x3A83126E, 0.0], velocity=[16.0, 0.0])),
+    ("00000000", "ground speed 0.5, on a leg", dict(leg=[1.0, 0.0], position=[50.0, 5.0], velocity=[0.5, 0.0])),
+    ("00000000", "ground speed 0.5", dict(position=[100.0, 0.0], velocity=[0.5, 0.0])),
+    ("00000000", "ground speed NaN", dict(leg=[1.0, 0.0], position=[50.0, 5.0], velocity=[NAN, 0.0])),
+    ("00000000", "a leg of length 1e-6", dict(leg=[0x358637BD, 0.0], position=[50.0, 5.0], velocity=[16.0, 0.0])),
+    ("40a00000", "a leg of length over 1e-6", dict(leg=[0x358637BE, 0.0], position=[50.0, 5.0], velocity=[16.0, 0.0])),
+    ("00000000", "a leg whose length overflows has no direction", dict(leg=[1e30, 0.0], position=[50.0, 5.0], velocity=[16.0, 0.0])),
+    ("40a00000", "an acceleration that is not finite keeps it", dict(leg=[1.0, 0.0], position=[50.0, 5.0], velocity=[INFINITY, 0.0])),
+    ("7f800000", "infinite", dict(leg=[1.0, 0.0], position=[50.0, INFINITY], velocity=[16.0, 0.0])),
+    ("7fc00000", "NaN", dict(leg=[1.0, 0.0], position=[NAN, 5.0], velocity=[16.0, 0.0])),
+    ("7fc00000", "NaN on a loiter", dict(position=[NAN, 5.0], velocity=[16.0, 0.0])),
+]
+
+
 def underspeed():
     """Share 0.5, least airspeed 10: 4.9 sets it, 5 and 9.9 keep it, 10 clears it."""
     lines = [configuration({27: 0.5})]
@@ -242,6 +266,7 @@ RECORDINGS = {
     "airspeed-1e30-weight-0": single({23: 0.0}, "refused 4", cruise=20.0, airspeed=1e30),
     "ties-by-hand": ties(),
     "idle": [DEFAULTS] + [f"{waypoint(**fields)} # {name}: {remark}" for name, remark, fields in IDLE],
+    "off": [DEFAULTS] + [f"{waypoint(**fields)} # {bits}: {remark}" for bits, remark, fields in OFF],
     "underspeed": underspeed(),
     "refusals": refusals(),
     "caps": caps(),

@@ -65,7 +65,7 @@ waypoint-tells g dt regime w s cap = go (badCap cap) (allFinite v)
     lateral : Steered
     lateral = steered (g .config) w s
 
-    go : (b f : Bool) → Tells g (cond b 3 (cond f 0 4)) (lateral .«roll_rad» ∷ v .«pitch_rad» ∷ v .thrust ∷ [])
+    go : (b f : Bool) → Tells g (cond b 3 (cond f 0 4)) (lateral .«roll_rad» ∷ v .«pitch_rad» ∷ v .thrust ∷ lateral .«cross_track_m» ∷ [])
         (cond b (refusal g 3) (cond f (flown g regime lateral (verticalLaw dt w s) v) (refusal g 4)))
     go true f = refused g 3 _ refl
     go false true = accepted g (flown g regime lateral (verticalLaw dt w s) v) refl

@@ -36,7 +36,7 @@ pub fn answer_text(answer: &Answer) -> String {
         Answer::Primed => "prime".to_string(),
         Answer::Plane(numbers) => format!("plane {}", hex(numbers)),
         Answer::Rate(numbers) => format!("rate {}", hex(numbers)),
-        Answer::Waypoint(lateral, vertical, numbers) => {
+        Answer::Waypoint(lateral, vertical, numbers, off) => {
             let lateral = match lateral {
                 Lateral::Track => "track",
                 Lateral::Loiter => "loiter",
@@ -47,7 +47,7 @@ pub fn answer_text(answer: &Answer) -> String {
                 Vertical::Hold => "hold",
                 Vertical::Fallback => "fallback",
             };
-            format!("{lateral} {vertical} {}", hex(numbers))
+            format!("{lateral} {vertical} {} {}", hex(numbers), hex(&[*off]))
         }
     }
 }

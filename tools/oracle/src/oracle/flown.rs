@@ -61,6 +61,8 @@ pub trait Flown: Sized {
     /// The mode report: mode (0 copter, 1 plane), refusal (0 none, 1 unsupported).
     fn flight_mode(&self) -> [u32; 2];
     fn state(&self) -> State;
+    /// The radius in force.
+    fn loiter_radius(&self) -> f32;
     fn copy(&self) -> Self;
 }
 
@@ -247,6 +249,10 @@ macro_rules! flown {
                         _ => Regime::Plane,
                     };
                     State { requested, altitude_integral: self.0.altitude.integral, energy: energy_state(&self.0.tecs) }
+                }
+
+                fn loiter_radius(&self) -> f32 {
+                    self.0.config.loiter_radius_m
                 }
 
                 fn copy(&self) -> Self {

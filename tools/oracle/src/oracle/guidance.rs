@@ -2,6 +2,7 @@
 
 use crate::configuration::Numbers;
 use crate::flown::{Flown, Setpoint};
+use crate::lateral::distance;
 use crate::record::{Call, Command, Waypoint};
 
 /// The time step is not finite or not above 0.
@@ -30,7 +31,8 @@ pub enum Answer {
     Primed,
     Plane([f32; 3]),
     Rate([f32; 4]),
-    Waypoint(Lateral, Vertical, [f32; 3]),
+    /// With the distance off the line, document 02's K6.
+    Waypoint(Lateral, Vertical, [f32; 3], f32),
 }
 
 /// The leg where it is present and finite.
@@ -95,7 +97,7 @@ pub fn call<F: Flown>(guidance: &mut F, call: &Call) -> Result<Answer, u32> {
         }
         Call::Guide { regime, time_step, command } => {
             let setpoint = next.guide_capped(*time_step, *regime, command);
-            named(command, setpoint)
+            named(command, setpoint, next.loiter_radius())
         }
     };
     if !sound(&answer, &next) {
@@ -105,9 +107,11 @@ pub fn call<F: Flown>(guidance: &mut F, call: &Call) -> Result<Answer, u32> {
     Ok(answer)
 }
 
-fn named(command: &Command, setpoint: Setpoint) -> Answer {
+fn named(command: &Command, setpoint: Setpoint, radius: f32) -> Answer {
     match (command, setpoint) {
-        (Command::Waypoint(w), Setpoint::Plane(numbers)) => Answer::Waypoint(lateral(w), vertical(w), numbers),
+        (Command::Waypoint(w), Setpoint::Plane(numbers)) => {
+            Answer::Waypoint(lateral(w), vertical(w), numbers, distance(w, radius))
+        }
         (_, Setpoint::Plane(numbers)) => Answer::Plane(numbers),
         (_, Setpoint::Rate(numbers)) => Answer::Rate(numbers),
     }
@@ -115,7 +119,7 @@ fn named(command: &Command, setpoint: Setpoint) -> Answer {
 
 /// Number 4's condition: it looks at a waypoint's pitch, thrust and what would be stored.
 pub fn sound<F: Flown>(answer: &Answer, next: &F) -> bool {
-    let Answer::Waypoint(_, _, [_, pitch, thrust]) = answer else {
+    let Answer::Waypoint(_, _, [_, pitch, thrust], _) = answer else {
         return true;
     };
     let stored = next.state().numbers();

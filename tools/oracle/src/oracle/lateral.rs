@@ -1,4 +1,4 @@
-//! Document 02's numbers of the lateral law, by its words and the stand-ins: ties.
+//! Document 02's numbers of the lateral law, by its words and the stand-ins: ties, and the distance off the line.
 
 use crate::guidance;
 use crate::record::Waypoint;
@@ -11,21 +11,41 @@ fn cross(a: [f32; 2], b: [f32; 2]) -> f32 {
     a[0] * b[1] - a[1] * b[0]
 }
 
-/// The normalised direction that the track law follows, of a leg or a loiter's tangent; none where the law gives up.
-fn direction(w: &Waypoint) -> Option<[f32; 2]> {
+fn less(a: [f32; 2], b: [f32; 2]) -> [f32; 2] {
+    [a[0] - b[0], a[1] - b[1]]
+}
+
+/// What the track law follows, a leg or a loiter's tangent: a point and the normalised direction.
+struct Line {
+    point: [f32; 2],
+    direction: [f32; 2],
+}
+
+/// The line of a waypoint; none where the law gives up.
+fn line(w: &Waypoint, radius: f32) -> Option<Line> {
     if guidance::idle_reason(w).is_some() {
         return None;
     }
     if let Some(leg) = guidance::finite_leg(w) {
-        return normalised(leg, 1e-6);
+        return Some(Line { point: w.point, direction: normalised(leg, 1e-6)? });
     }
-    let [x, y] = normalised([w.position[0] - w.point[0], w.position[1] - w.point[1]], 1e-3)?;
-    normalised([-y, x], 1e-6)
+    let [x, y] = normalised(less([w.position[0], w.position[1]], w.point), 1e-3)?;
+    let point = [w.point[0] + x * radius, w.point[1] + y * radius];
+    Some(Line { point, direction: normalised([-y, x], 1e-6)? })
+}
+
+/// K6: metres off the line, right positive; +0 where the law gives up.
+pub fn distance(w: &Waypoint, radius: f32) -> f32 {
+    match line(w, radius) {
+        Some(Line { point, direction }) => cross(direction, less([w.position[0], w.position[1]], point)),
+        None => 0.0,
+    }
 }
 
 /// K5: which zero the cross product of direction and velocity is, at a tie straight back.
 pub fn tie(w: &Waypoint) -> Option<&'static str> {
-    let direction = direction(w)?;
+    // The direction does not depend on the radius.
+    let direction = line(w, 1.0)?.direction;
     let velocity = [w.velocity[0], w.velocity[1]];
     let side = cross(direction, velocity);
     let back = arithmetic::dot(direction[0], direction[1], velocity[0], velocity[1]) < 0.0;

@@ -94,7 +94,7 @@ pub fn all_finite(setpoint: &Setpoint, state: &State) -> bool {
 /// How an accepted answer and the state after it differ from the Rust's; `tie` says whether document 02's K5 decided the roll.
 pub fn difference(answer: &Answer, state: &State, setpoint: &Setpoint, theirs: &State, tie: bool) -> &'static str {
     let ours: Vec<f32> = match answer {
-        Answer::Plane(numbers) | Answer::Waypoint(_, _, numbers) => numbers.to_vec(),
+        Answer::Plane(numbers) | Answer::Waypoint(_, _, numbers, _) => numbers.to_vec(),
         Answer::Rate(numbers) => numbers.to_vec(),
         Answer::Primed => Vec::new(),
     };

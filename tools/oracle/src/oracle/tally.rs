@@ -6,7 +6,7 @@ use std::collections::BTreeMap;
 use crate::configuration::Numbers;
 use crate::desk::{Form, answer_text, state_text};
 use crate::flown::{Flown, State, counted, judge, validate};
-use crate::guidance::{self, Answer, Vertical};
+use crate::guidance::{self, Answer, Lateral, Vertical};
 use crate::lateral;
 use crate::limits;
 use crate::original;
@@ -79,11 +79,12 @@ impl Tally {
         let counting = guidance::call(&mut pair.counted, call);
         assert_eq!(answer.as_ref().map(answer_text), counting.as_ref().map(answer_text));
         assert_eq!(state_text(&pair.judge.state()), state_text(&pair.counted.state()));
-        if let (Ok(Answer::Waypoint(_, _, numbers)), Call::Guide { command: Command::Waypoint(w), .. }) =
+        if let (Ok(Answer::Waypoint(_, _, numbers, off)), Call::Guide { command: Command::Waypoint(w), .. }) =
             (&answer, call)
         {
             let broken = limits::broken(&pair.numbers, w, *numbers, &pair.judge.state());
             assert_eq!(broken, None, "{call:?} from {before:?}");
+            self.add("distances", distance_name(w, *off));
         }
         self.describe(call, &before, &answer);
         self.compare_original(pair, call, &before, &answer);
@@ -212,6 +213,22 @@ fn leg_name(w: &Waypoint) -> &'static str {
     } else {
         "finite"
     }
+}
+
+fn distance_name(w: &Waypoint, off: f32) -> String {
+    let law = match guidance::lateral(w) {
+        Lateral::Track => "track",
+        Lateral::Loiter => "loiter",
+        Lateral::Idle => "idle",
+    };
+    let side = match off {
+        _ if off.is_nan() => "NaN",
+        _ if off.is_infinite() => "infinite",
+        _ if off == 0.0 => "zero",
+        _ if off > 0.0 => "right",
+        _ => "left",
+    };
+    format!("{law}, {side}")
 }
 
 fn cap_name(cap: Option<f32>) -> &'static str {

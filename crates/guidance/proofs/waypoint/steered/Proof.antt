@@ -1,10 +1,11 @@
 use Rattle.laws.proofs.Idle.{idle-is}
-use Rattle.guidance.specs.Plane.{lateralLaw, rollOf}
+use Rattle.laws.proofs.OffLine.{cross-track-is}
+use Rattle.guidance.specs.Plane.{lateralLaw, rollOf, crossTrackOf}
 use Rattle.guidance.proofs.waypoint.steered.Statement.{statement}
 use Rattle.guidance.proofs.waypoint.steered.Tie as tie
 
 returns : tie.Need-returns
-unfolding lateralLaw rollOf
+unfolding lateralLaw rollOf crossTrackOf
 returns c =
     let c1 = c .before in
     let c2 = c1 .before in
@@ -21,6 +22,7 @@ returns c =
       c5 .north-east .ensures,
       c6 .finite-leg .ensures,
       idle-is _ _ _ _ _ _ _,
+      cross-track-is _ _ _ _ _ _ _,
     )
 
 pub steered-spec : {M : Type 1} → statement M

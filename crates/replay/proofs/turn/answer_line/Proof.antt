@@ -27,8 +27,8 @@ lateral-word-requires c κs = search needs
 vertical-word-requires : tie.Need-vertical-word-requires
 vertical-word-requires c κs = search needs
 
-setpoint-line-requires-2 : tie.Need-setpoint-line-requires-2
-setpoint-line-requires-2 c κs = search needs
+waypoint-line-requires : tie.Need-waypoint-line-requires
+waypoint-line-requires c κs = search needs
 
 returns : tie.Need-returns
 unfolding answerLine
@@ -40,7 +40,9 @@ returns-2 c = rw (c .setpoint-line .ensures, c .before .kind-word .ensures, c .b
 
 returns-3 : tie.Need-returns-3
 unfolding answerLine
-returns-3 c = rw (c .setpoint-line2 .ensures, c .before .vertical-word .ensures, c .before .before .lateral-word .ensures, c .before .before .before .before .before .answer3 .given .1)
+returns-3 c =
+    let v = c .before in
+    rw (c .waypoint-line .ensures, v .vertical-word .ensures, v .before .lateral-word .ensures, v .before .before .before .before .answer3 .given .1)
 
 pub answer-line-spec : {M : Type 1} → statement M
 answer-line-spec =
@@ -54,7 +56,7 @@ answer-line-spec =
     enum-known-answer-3
     lateral-word-requires
     vertical-word-requires
-    setpoint-line-requires-2
+    waypoint-line-requires
     returns
     returns-2
     returns-3)

@@ -166,7 +166,7 @@ impl Flight {
         let call = if random.once_in(250) { Call::Prime } else { self.call(random) };
         let dt = 0.1;
         if let Ok(answer) = guidance::call(&mut self.guidance, &call) {
-            if let Answer::Plane(flown) | Answer::Waypoint(_, _, flown) = answer {
+            if let Answer::Plane(flown) | Answer::Waypoint(_, _, flown, _) = answer {
                 self.craft.fly(flown, dt);
             }
         }
