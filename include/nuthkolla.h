@@ -41,7 +41,8 @@
 extern "C" {
 #endif
 
-/* ---- configuration: 33 numbers, fields 1 to 33 in this order */
+/* ---- configuration: 33 numbers, fields 1 to 33 in this order, each judged by itself; then two pairs: a least airspeed above the
+ * greatest fails as field 34, a least thrust above the greatest as field 35. Equal ones pass. */
 
 typedef struct nuthkolla_vec3 {
     float x, y, z;
@@ -60,7 +61,7 @@ typedef struct nuthkolla_tecs_config {
     float speed_weight;                  /* 23, 0 to 2 */
     float roll_compensation;             /* 24, 0 or above, finite, m^2/s^3 */
     float min_airspeed_mps;              /* 25, above 0, finite */
-    float max_airspeed_mps;              /* 26, above 0, finite; below the least, the least rules */
+    float max_airspeed_mps;              /* 26, above 0, finite; below the least: 34 */
     float underspeed_share;              /* 27, above 0, up to 1 */
     float height_demand_time_constant_s; /* 28, above 0, finite */
     float airspeed_rate_time_constant_s; /* 29, above 0, finite */
@@ -82,7 +83,7 @@ typedef struct nuthkolla_config {
     float altitude_max_integral;   /* 14, 0 or above, finite, m s */
     nuthkolla_tecs_config tecs;    /* 15 to 30 */
     float min_thrust;              /* 31, 0 to 1 */
-    float max_thrust;              /* 32, 0 to 1; below the least, the least rules */
+    float max_thrust;              /* 32, 0 to 1; below the least: 35 */
     float climb_thrust_per_rad;    /* 33, 0 or above, finite */
 } nuthkolla_config;
 
@@ -129,7 +130,7 @@ enum { NUTHKOLLA_UNKNOWN = 255 };
 
 typedef struct nuthkolla_answer {
     uint32_t refusal;  /* 0, or the refusal's number */
-    uint32_t field;    /* of refusal 1 the failing field's number, 1 to 33, else 0 */
+    uint32_t field;    /* of refusal 1 the failing field's number, 1 to 35, else 0 */
     uint32_t setpoint; /* 0 none, 1 plane setpoint, 2 plane rate setpoint */
     uint32_t lateral;  /* of a waypoint 1 track, 2 loiter, 3 idle (no leg to speak of, or too slow); else 0 */
     uint32_t vertical; /* of a waypoint 1 energy, 2 hold, 3 fallback; else 0 */
@@ -216,7 +217,7 @@ nuthkolla_config_read nuthkolla_read_config(const uint8_t *bytes, size_t length,
 
 nuthkolla_config nuthkolla_default_config(void);
 
-/* 0, or the number of the first field that fails, 1 to 33. */
+/* 0, or the number of the first field that fails, 1 to 35. */
 uint32_t nuthkolla_validate(nuthkolla_config config);
 
 /* The mode report of a guidance, from its `requested`: the mode is always plane; 0, or 1 where the requested

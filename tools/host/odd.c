@@ -44,7 +44,7 @@ static void check(const nuthkolla_answer *a)
 {
     expect(a->refusal <= 8 || a->refusal == NUTHKOLLA_UNKNOWN, "refusal's number");
     expect((a->refusal == 1) == (a->field != 0), "field of refusal 1 alone");
-    expect(a->field <= 33, "field's number");
+    expect(a->field <= 35, "field's number");
     expect(a->setpoint <= 2 && a->lateral <= 3 && a->vertical <= 3, "kind and laws");
     expect((a->lateral != 0) == (a->vertical != 0), "both laws or none");
     expect(a->lateral == 0 || a->setpoint == NUTHKOLLA_PLANE, "a waypoint answers a plane setpoint");

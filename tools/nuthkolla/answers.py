@@ -10,7 +10,7 @@ NUMBERS = {"plane": 3, "rate": 4, "prime": 0}
 LATERAL = ("track", "loiter", "idle")
 VERTICAL = ("energy", "hold", "fallback")
 WORD = re.compile(r"[0-9a-f]{8}", re.ASCII)
-ENDING = re.compile(r"config refused ([1-9]|[12][0-9]|3[0-3])|config stopped [56]|[0-9]+ stopped [5679]", re.ASCII)
+ENDING = re.compile(r"config refused ([1-9]|[12][0-9]|3[0-5])|config stopped [56]|[0-9]+ stopped [5679]", re.ASCII)
 
 # Which answers a kind of call may get, beside a refusal.
 ANSWERS_TO = {

@@ -27,7 +27,7 @@ SECTIONS = {
     "answers": [name for name in ANSWERS if not name.startswith(("set", "stopped", "refused 1"))],
     "caps": ["+0", "-0", "NaN", "above 0", "below 0", "none"],
     "commands": ["absolute attitude", "absolute rate", "attitude", "land", "prime", "rate", "waypoint"],
-    "configurations": [*(f"refused, field {field:2}" for field in range(1, 34)), "set", "taken"],
+    "configurations": [*(f"refused, field {field:2}" for field in range(1, 36)), "set", "taken"],
     "energy steps": ["first step, no underspeed", "later step, no underspeed", "later step, underspeed stood"],
     "fallbacks": ["airspeed NaN", "airspeed below 0", "cruise speed NaN", "cruise speed not above 0", "no airspeed"],
     "holds": [

@@ -1,4 +1,4 @@
-"""The 33 numbers of a configuration: names, units, what passes `validate`, and the Default values as bits."""
+"""The 33 numbers of a configuration: names, units, what passes `validate`, and the Default values as bits; two pairs."""
 
 import math
 from typing import NamedTuple
@@ -81,16 +81,21 @@ SETTINGS = [
 ]
 
 
+# Fields 34 and 35 are no numbers of their own: a least that must not be above its greatest.
+PAIRS = {34: ("min_airspeed_mps", "max_airspeed_mps"), 35: ("min_thrust", "max_thrust")}
+
+
 def first_failing(configuration):
     """The number of the first field that fails, by name and bits; none where all pass."""
     of = {name: value(bits) for name, bits in configuration.items()}
     failing = [n for n, setting in enumerate(SETTINGS, 1) if not TESTS[setting.passes](of[setting.name])]
+    failing += [n for n, (least, greatest) in PAIRS.items() if of[least] > of[greatest]]
     return failing[0] if failing else None
 
 
 def settings_table():
-    """A line for each number, for people."""
+    """A line for each number, for people, and for each pair."""
     rows = [("", "name", "unit", "default", "passes")]
     rows += [(str(n), s.name, s.unit, to_text(s.default), s.passes) for n, s in enumerate(SETTINGS, 1)]
     lines = [f"{n:>4}  {name:<30} {unit:<10} {default:<11} {passes}" for n, name, unit, default, passes in rows]
-    return "\n".join(lines)
+    return "\n".join(lines + [f"{n:>4}  {least} is not above {greatest}" for n, (least, greatest) in PAIRS.items()])

@@ -5,7 +5,7 @@ import math
 from nuthkolla.numbers import to_text, value
 from nuthkolla.record import REFUSALS as RECORD_REFUSALS
 from nuthkolla.record import MOST_CALLS
-from nuthkolla.settings import SETTINGS
+from nuthkolla.settings import PAIRS, SETTINGS
 
 REFUSED = {
     2: "the time step is not finite or not above 0",
@@ -25,6 +25,9 @@ def stopped_words(number):
 
 def setting_words(field, configuration):
     """Why a configuration is refused at a field."""
+    if field in PAIRS:
+        least, greatest = ((name, to_text(configuration[name])) for name in PAIRS[field])
+        return f"field {field}, {least[0]}, {least[1]}, is above {greatest[0]}, {greatest[1]}"
     setting = SETTINGS[field - 1]
     unit = f" {setting.unit}" if setting.unit else ""
     given = to_text(configuration[setting.name])

@@ -4,8 +4,8 @@
 They are written to the crate, or to the folder named.
 
 The group of a law's name has the oracle's rows of that law (tools/oracle/fixed/laws, where its README says what is in one). A
-group document_01_NAME has the cases of that law that document 01 states, in the same form: input words, then answer words, each
-4 bytes, low byte first.
+group document_01_NAME or document_02_NAME has the cases of that law that the document states, in the same form: input words, then
+answer words, each 4 bytes, low byte first.
 """
 import pathlib
 import struct
@@ -41,8 +41,67 @@ DEFAULT = (
 )
 
 
+def with_fields(values):
+    """The default values with these numbers, by field; a whole number gives its bits."""
+    row = list(DEFAULT)
+    for field, value in values.items():
+        row[field - 1] = value if isinstance(value, int) else bits(value)
+    return row
+
+
 def with_field(field, value):
-    return DEFAULT[: field - 1] + numbers(value) + DEFAULT[field:]
+    return with_fields({field: float(value)})
+
+
+# Of each field, from document 01 and the Rust's `validate`: the bits of a number just below what passes and of one just above.
+NEGATIVE, ZERO, ABOVE_1, ABOVE_2, INFINITE, QUARTER_TURN = 0x80000001, 0, 0x3F800001, 0x40000001, 0x7F800000, 0x3FC90FDC
+PASSING = {
+    "limit": (NEGATIVE, INFINITE),
+    "positive": (ZERO, INFINITE),
+    "angle": (NEGATIVE, QUARTER_TURN),
+    "trim": (0x80000000 | QUARTER_TURN, QUARTER_TURN),
+    "thrust": (NEGATIVE, ABOVE_1),
+    "weight": (NEGATIVE, ABOVE_2),
+    "share": (ZERO, ABOVE_1),
+}
+CHECKS = (
+    "angle angle angle limit limit limit trim thrust positive positive positive limit limit limit "
+    "positive positive positive limit limit limit limit limit weight limit positive positive share positive positive positive "
+    "thrust thrust limit"
+).split()
+
+
+def every_field():
+    """Each field fails first on either side and at NaN; the fields behind it fail too."""
+    for field, check in enumerate(CHECKS, 1):
+        for failing in (*PASSING[check], NAN):
+            yield with_fields({field: failing}) + [field]
+            yield with_fields({n: NAN for n in range(field + 1, 34)} | {field: failing}) + [field]
+
+
+LEAST_AIRSPEED, GREATEST_AIRSPEED, LEAST_THRUST, GREATEST_THRUST = 25, 26, 31, 32
+
+
+def limits(airspeeds, thrusts, fails):
+    """Document 02's K8: least and greatest of both pairs."""
+    fields = (LEAST_AIRSPEED, GREATEST_AIRSPEED, LEAST_THRUST, GREATEST_THRUST)
+    return with_fields(dict(zip(fields, (*airspeeds, *thrusts)))) + [fails]
+
+
+AIRSPEEDS, THRUSTS, ROUND_AIRSPEEDS, ROUND_THRUSTS = (10.0, 25.0), (0.2, 1.0), (25.0, 10.0), (1.0, 0.2)
+PAIRS = [
+    limits(ROUND_AIRSPEEDS, THRUSTS, 34),
+    limits(AIRSPEEDS, ROUND_THRUSTS, 35),
+    limits(ROUND_AIRSPEEDS, ROUND_THRUSTS, 34),
+    limits((0x41200001, 10.0), THRUSTS, 34),
+    limits((10.0, 0x41200001), THRUSTS, 0),
+    limits((10.0, 10.0), (0.5, 0.5), 0),
+    limits(AIRSPEEDS, (0x00000001, 0.0), 35),
+    limits(AIRSPEEDS, (0.0, -0.0), 0),
+    limits(AIRSPEEDS, (-0.0, 0.0), 0),
+    limits(ROUND_AIRSPEEDS, (2.0, 0.2), LEAST_THRUST),
+    with_fields({LEAST_AIRSPEED: 25.0, GREATEST_AIRSPEED: 10.0, 33: NAN}) + [33],
+]
 
 
 def pi(error, integral, answer, after):
@@ -79,8 +138,10 @@ STATED = {
         with_field(SPEED_WEIGHT, 2.25) + [SPEED_WEIGHT],
         with_field(SHARE, 1) + [0],
         with_field(SHARE, 0) + [SHARE],
+        *every_field(),
     ],
 }
+STATED_02 = {"validate": PAIRS}
 
 
 def words_of(law):
@@ -94,10 +155,11 @@ def words_of(law):
 def groups():
     for law in LAWS:
         yield law, (ORACLE / f"{law}.rows").read_bytes(), words_of(law)
-    for law, rows in STATED.items():
-        words = words_of(law)
-        assert all(len(row) == words for row in rows), law
-        yield f"document_01_{law}", b"".join(struct.pack(f"<{words}I", *row) for row in rows), words
+    for document, stated in (("document_01", STATED), ("document_02", STATED_02)):
+        for law, rows in stated.items():
+            words = words_of(law)
+            assert all(len(row) == words for row in rows), law
+            yield f"{document}_{law}", b"".join(struct.pack(f"<{words}I", *row) for row in rows), words
 
 
 def main():

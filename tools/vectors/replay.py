@@ -87,6 +87,10 @@ def by_hand():
     yield "config_refused_1", config({1: -1.0}) + call(PRIME)
     yield "config_refused_23", config({23: 2.25})
     yield "config_refused_33", config({33: NAN})
+    yield "config_refused_34", config({25: 25.0, 26: 10.0}) + call(PRIME)
+    yield "config_refused_35", config({32: 0.125})
+    yield "config_both_crossed", config({25: 25.0, 26: 10.0, 31: 1.0, 32: 0.125})
+    yield "config_equal", config({25: 18.0, 26: 18.0, 31: -0.0, 32: 0.0}) + waypoint()
     yield "config_bad_and_cut", config({1: -1.0, 2: 1.0})[:-2]
     yield "config_whole", config({1: 0.5, 31: 0.125, 32: 0.5}) + waypoint(_20=None)
     yield "stray_1", PLAIN + b"\x01"

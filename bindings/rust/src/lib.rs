@@ -163,7 +163,11 @@ impl PlaneGuidance {
     fn run(&mut self, what: u32, bytes: &[u8]) -> Result<ffi::Answer, Refusal> {
         // Safety: both are borrowed for the call, the guidance for itself alone.
         let answer = unsafe { ffi::nuthkolla_run(&mut self.held, what, bytes.as_ptr(), bytes.len()) };
-        Refusal::of(answer.refusal, answer.field)?;
+        if answer.refusal == 1 {
+            let (config, _) = read_config(bytes, 0)?;
+            return Err(Refusal::Config(InvalidConfig::of(answer.field, &config)));
+        }
+        Refusal::of(answer.refusal)?;
         Ok(answer)
     }
 }
@@ -205,7 +209,7 @@ fn laws_of(answer: &ffi::Answer) -> Option<Laws> {
 pub fn write_call(out: &mut [u8], at: usize, call: &Call) -> Result<usize, Refusal> {
     // Safety: the buffer is borrowed for the call.
     let place = unsafe { ffi::nuthkolla_write_call(out.as_mut_ptr(), out.len(), at, numbers_of(call)) };
-    Refusal::of(place.refusal, 0)?;
+    Refusal::of(place.refusal)?;
     Ok(place.next)
 }
 
@@ -217,7 +221,7 @@ pub fn write_call(out: &mut [u8], at: usize, call: &Call) -> Result<usize, Refus
 pub fn write_config(out: &mut [u8], at: usize, config: &PlaneGuidanceConfig) -> Result<usize, Refusal> {
     // Safety: the buffer is borrowed for the call.
     let place = unsafe { ffi::nuthkolla_write_config(out.as_mut_ptr(), out.len(), at, *config) };
-    Refusal::of(place.refusal, 0)?;
+    Refusal::of(place.refusal)?;
     Ok(place.next)
 }
 
@@ -229,7 +233,7 @@ pub fn write_config(out: &mut [u8], at: usize, config: &PlaneGuidanceConfig) -> 
 pub fn read_config(record: &[u8], at: usize) -> Result<(PlaneGuidanceConfig, usize), Refusal> {
     // Safety: the bytes are borrowed for the call.
     let read = unsafe { ffi::nuthkolla_read_config(record.as_ptr(), record.len(), at) };
-    Refusal::of(read.refusal, 0)?;
+    Refusal::of(read.refusal)?;
     Ok((read.config, read.next))
 }
 

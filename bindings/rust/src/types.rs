@@ -86,14 +86,17 @@ impl Default for PlaneGuidanceConfig {
 }
 
 impl PlaneGuidanceConfig {
-    /// `Ok` when every field is in its range.
+    /// `Ok` when every field is in its range, and neither least airspeed nor least thrust is above its greatest.
     ///
     /// # Errors
     ///
     /// The first field that fails.
     pub fn validate(&self) -> Result<(), InvalidConfig> {
         // Safety: it takes a plain struct by value.
-        InvalidConfig::of(unsafe { crate::ffi::nuthkolla_validate(*self) })
+        match unsafe { crate::ffi::nuthkolla_validate(*self) } {
+            0 => Ok(()),
+            number => Err(InvalidConfig::of(number, self)),
+        }
     }
 }
 
@@ -134,27 +137,63 @@ pub const FIELDS: [&str; 33] = [
     "climb_thrust_per_rad",
 ];
 
-/// A configuration whose field `number` fails: refusal 1.
-#[derive(Clone, Copy, Debug, PartialEq, Eq)]
+/// A least number above its greatest: both names, and both numbers as they were given.
+#[derive(Clone, Copy, Debug, PartialEq)]
+pub struct Crossed {
+    pub least_field: &'static str,
+    pub least: f32,
+    pub greatest_field: &'static str,
+    pub greatest: f32,
+}
+
+/// A configuration whose field `number` fails: refusal 1. Numbers 34 and 35 are a pair that is crossed.
+///
+/// ```
+/// let mut config = nuthkolla::PlaneGuidanceConfig::default();
+/// (config.tecs.min_airspeed_mps, config.tecs.max_airspeed_mps) = (25.0, 10.0);
+/// let refused = nuthkolla::PlaneGuidance::new(config).unwrap_err();
+/// assert_eq!(refused.to_string(), "refused 1: field 34: tecs.min_airspeed_mps 25 is above tecs.max_airspeed_mps 10");
+/// ```
+#[derive(Clone, Copy, Debug, PartialEq)]
 pub struct InvalidConfig {
     pub number: u32,
+    /// Of 34 and 35, what is crossed.
+    pub crossed: Option<Crossed>,
 }
 
 impl InvalidConfig {
-    pub(crate) fn of(number: u32) -> Result<(), InvalidConfig> {
-        if number == 0 { Ok(()) } else { Err(InvalidConfig { number }) }
+    pub(crate) fn of(number: u32, config: &PlaneGuidanceConfig) -> InvalidConfig {
+        let pair = |least: usize, values: (f32, f32)| Crossed {
+            least_field: FIELDS[least - 1],
+            least: values.0,
+            greatest_field: FIELDS[least],
+            greatest: values.1,
+        };
+        let crossed = match number {
+            34 => Some(pair(25, (config.tecs.min_airspeed_mps, config.tecs.max_airspeed_mps))),
+            35 => Some(pair(31, (config.min_thrust, config.max_thrust))),
+            _ => None,
+        };
+        InvalidConfig { number, crossed }
     }
 
-    /// The field's name.
+    /// The field's name; of a crossed pair the least's.
     pub fn field(&self) -> &'static str {
         let at = (self.number as usize).wrapping_sub(1);
-        FIELDS.get(at).copied().unwrap_or("unnamed")
+        let own = FIELDS.get(at).copied().unwrap_or("unnamed");
+        self.crossed.map_or(own, |pair| pair.least_field)
     }
 }
 
 impl core::fmt::Display for InvalidConfig {
     fn fmt(&self, f: &mut core::fmt::Formatter<'_>) -> core::fmt::Result {
-        write!(f, "field {} ({}) is out of its range", self.number, self.field())
+        match self.crossed {
+            None => write!(f, "field {} ({}) is out of its range", self.number, self.field()),
+            Some(pair) => {
+                let Crossed { least_field, least, greatest_field, greatest } = pair;
+                write!(f, "field {}: {least_field} {least} is above {greatest_field} {greatest}", self.number)
+            }
+        }
     }
 }
 
@@ -320,9 +359,9 @@ pub struct Answer {
 }
 
 /// Why a call was refused. A refused call changes nothing.
-#[derive(Clone, Copy, Debug, PartialEq, Eq)]
+#[derive(Clone, Copy, Debug, PartialEq)]
 pub enum Refusal {
-    /// 1: a configuration's field fails.
+    /// 1: a configuration's field fails, or a pair of its fields is crossed.
     Config(InvalidConfig),
     /// 2: the time step is not finite or not above 0.
     TimeStep,
@@ -355,11 +394,10 @@ impl Refusal {
         }
     }
 
-    /// `Ok` for 0. The library gives no number above 8 to the calls of this crate.
-    pub(crate) fn of(refusal: u32, field: u32) -> Result<(), Refusal> {
+    /// `Ok` for 0. The library gives no other number to the calls of this crate; 1 is made where the configuration is at hand.
+    pub(crate) fn of(refusal: u32) -> Result<(), Refusal> {
         Err(match refusal {
             0 => return Ok(()),
-            1 => Refusal::Config(InvalidConfig { number: field }),
             2 => Refusal::TimeStep,
             3 => Refusal::Cap,
             4 => Refusal::NotFinite,

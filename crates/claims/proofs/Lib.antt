@@ -4,6 +4,7 @@ pub mod Strike
 pub mod Limited
 pub mod Runs
 pub mod Demand3
+pub mod Validity
 mod Spans
 pub mod Clamps
 mod Variants

@@ -1,5 +1,6 @@
--- Document 01, "Guidance": lists of calls on a guidance, and demand 3 about them.
+-- Document 01, "Guidance": lists of calls on a guidance, and demand 3 about them; document 02's K8: their settings.
 pub mod Calls
 pub mod Limits
 pub mod Clamps
 pub mod Demand3
+pub mod Validity

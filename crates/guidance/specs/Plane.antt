@@ -183,7 +183,8 @@ abbrev pub capped : Float → OptionF32 → Float
 capped limit None = limit
 capped limit (Some cap) = least limit cap
 
--- the thrust span's top; crossed, the least wins
+-- The thrust span's top. No valid configuration has the limits crossed (document 02, K8); at equal ones `greatest` gives the least
+-- thrust, which settles the sign of a zero.
 unfoldable pub topThrust : PlaneGuidanceConfig → Float
 topThrust c = greatest (c .«max_thrust») (c .«min_thrust»)
 

@@ -1,6 +1,8 @@
--- The configuration's 33 numbers: their tests in the order of `validate`, and their Default values. Definitions only.
+-- The configuration's 33 numbers: their tests in the order of `validate`, with the two pairs of document 02's K8 as fields 34
+-- and 35, and their Default values. Definitions only.
 use Prim.Native.Nat.{ℕ, suc}
-use mathlib.Core.Bool.{Bool, cond, _&&_}
+use mathlib.Core.Path.{_≡_}
+use mathlib.Core.Bool.{Bool, true, cond, not, _&&_}
 use mathlib.Core.List.{List, [], _∷_, _++_}
 use lib.Ieee as Ieee
 use lib.Ieee.{Float, neg}
@@ -26,6 +28,10 @@ within low x high = Ieee.le low x && Ieee.le x high
 -- from 0, not included, to 1
 abbrev pub checkShare : Float → Bool
 checkShare x = Ieee.lt n0 x && Ieee.le x n1
+
+-- a least value not above its greatest; equal ones pass, and zeros of two signs are equal
+abbrev pub ordered : Float → Float → Bool
+ordered least greatest = not (Ieee.lt greatest least)
 
 -- ---- all of them, in the order in which they are checked and numbered
 
@@ -69,12 +75,14 @@ tecsTests t =
     checkPositive (t .«kinetic_rate_high_pass_s») ∷  -- 30
     []
 
--- fields 31 to 33
+-- fields 31 to 33; then document 02's K8: a least airspeed above the greatest is field 34, a least thrust above the greatest 35
 abbrev pub lastTests : PlaneGuidanceConfig → List Bool
 lastTests c =
     within n0 (c .«min_thrust») n1 ∷  -- 31
     within n0 (c .«max_thrust») n1 ∷  -- 32
     checkLimit (c .«climb_thrust_per_rad») ∷  -- 33
+    ordered (c .tecs .«min_airspeed_mps») (c .tecs .«max_airspeed_mps») ∷  -- 34
+    ordered (c .«min_thrust») (c .«max_thrust») ∷  -- 35
     []
 
 abbrev pub configTests : PlaneGuidanceConfig → List Bool
@@ -89,9 +97,15 @@ firstFailing n (b ∷ bs) rest = cond b (firstFailing (suc n) bs rest) n
 unfoldable pub tecsValidate : TecsConfig → ℕ
 tecsValidate t = firstFailing 15 (tecsTests t) 0
 
--- PlaneGuidanceConfig::validate: 0, or the number of the first failing field, 1 to 33. Crossed least and greatest pass.
+-- PlaneGuidanceConfig::validate, and after it the two pairs, which the Rust lets pass crossed (document 02, K8): 0, or the number
+-- of the first failing field, 1 to 35.
 unfoldable pub validate : PlaneGuidanceConfig → ℕ
 validate c = firstFailing 1 (configTests c) 0
+
+-- K8: least airspeed and least thrust are numbers, and neither is above its greatest.
+pub record OrderedPairs (c : PlaneGuidanceConfig) : Type 0 where
+  pub airspeed : Ieee.le (c .tecs .«min_airspeed_mps») (c .tecs .«max_airspeed_mps») ≡ true
+  pub thrust : Ieee.le (c .«min_thrust») (c .«max_thrust») ≡ true
 
 -- ---- Default values
 

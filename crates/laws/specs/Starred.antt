@@ -1,5 +1,5 @@
--- The starred cases of document 01's "Both shores", and the fixed cases of its "Tempting here" that lie in these laws: one table,
--- the values compared as bits. A case more is a line more. Definitions only.
+-- The starred cases of document 01's "Both shores", the fixed cases of its "Tempting here" that lie in these laws, and the cases of
+-- document 02's K8: one table, the values compared as bits. A case more is a line more. Definitions only.
 use Prim.Native.Nat.{ℕ}
 use mathlib.Core.List.{List, [], _∷_}
 use lib.Ieee.{Float, nan, binary32}
@@ -9,9 +9,9 @@ use Rattle.arithmetic.specs.Order.{least}
 use Rattle.arithmetic.specs.Root.{rootOf}
 use Rattle.arithmetic.specs.Trigonometry.{cosine, arctangent2}
 use Rattle.laws.specs.Math.{clampSymmetric, saturateUnit, lagged}
-use Rattle.laws.specs.Config.{tecsDefault, default, tecsValidate, validate}
+use Rattle.laws.specs.Config.{tecsDefault, default, validate}
 use Rattle.laws.specs.Navigation.{piStep}
-use Rattle.laws.specs.Tecs.{updateUnderspeed, turnRate, clampAirspeed, reset, hold}
+use Rattle.laws.specs.Tecs.{updateUnderspeed, turnRate, reset, hold}
 use Rattle.laws.specs.declared.config.TecsConfig.{TecsConfig}
 use Rattle.laws.specs.declared.config.PlaneGuidanceConfig.{PlaneGuidanceConfig}
 use Rattle.laws.specs.declared.navigation.PiLoop.{PiLoop}
@@ -75,9 +75,9 @@ tecsWith weight leastAirspeed greatestAirspeed share = record {
   «kinetic_rate_high_pass_s» = tecsDefault .«kinetic_rate_high_pass_s»;
 }
 
--- the default configuration with this energy configuration
-abbrev pub configWith : TecsConfig → PlaneGuidanceConfig
-configWith t = record {
+-- the default configuration with this energy configuration, min_thrust and max_thrust
+abbrev pub configWith : TecsConfig → Float → Float → PlaneGuidanceConfig
+configWith t leastThrust greatestThrust = record {
   «max_bank_rad» = default .«max_bank_rad»;
   «max_pitch_up_rad» = default .«max_pitch_up_rad»;
   «max_pitch_down_rad» = default .«max_pitch_down_rad»;
@@ -91,16 +91,20 @@ configWith t = record {
   «altitude_i» = default .«altitude_i»;
   «altitude_max_integral» = default .«altitude_max_integral»;
   tecs = t;
-  «min_thrust» = default .«min_thrust»;
-  «max_thrust» = default .«max_thrust»;
+  «min_thrust» = leastThrust;
+  «max_thrust» = greatestThrust;
   «climb_thrust_per_rad» = default .«climb_thrust_per_rad»;
 }
 
 abbrev weighted : Float → PlaneGuidanceConfig
-weighted weight = configWith (tecsWith weight ten (f32 0x41c80000) (f32 0x3f666666))
+weighted weight = configWith (tecsWith weight ten (f32 0x41c80000) (f32 0x3f666666)) plusZero one
 
 abbrev shared : Float → PlaneGuidanceConfig
-shared share = configWith (tecsWith one ten (f32 0x41c80000) share)
+shared share = configWith (tecsWith one ten (f32 0x41c80000) share) plusZero one
+
+-- least and greatest airspeed, least and greatest thrust
+abbrev limited : Float → Float → Float → Float → PlaneGuidanceConfig
+limited leastAirspeed greatestAirspeed = configWith (tecsWith one leastAirspeed greatestAirspeed half)
 
 -- share 0.5, least airspeed 10
 abbrev underspeed : ℕ → Float → ℕ
@@ -160,7 +164,13 @@ table =
       «max_thrust» = one;
       «cruise_thrust» = half;
     }) .thrust) is 0x3f000000) ∷
-    -- Crossed least and greatest airspeed, 10 and 8: they pass, and the least wins.
-    (tecsValidate (tecsWith one ten eight half) is 0) ∷
-    (bits (clampAirspeed (tecsWith one ten eight half) nine) is 0x41200000) ∷
+    -- K8: crossed airspeeds fail as field 34, crossed thrusts as 35, both crossed as 34; a failing field before them is named first.
+    (validate (limited nine eight plusZero one) is 34) ∷
+    (validate (limited eight nine half quarter) is 35) ∷
+    (validate (limited nine eight half quarter) is 34) ∷
+    (validate (limited nine eight two quarter) is 31) ∷
+    -- K8: equal ones pass, and zeros of two signs are equal.
+    (validate (limited nine nine half half) is 0) ∷
+    (validate (limited eight nine plusZero minusZero) is 0) ∷
+    (validate (limited eight nine minusZero plusZero) is 0) ∷
     []

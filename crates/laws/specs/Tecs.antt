@@ -78,7 +78,8 @@ leastEnergyRate config = neg gravity ·ᶠ config .«max_sink_mps»
 abbrev pub minSinkRate : TecsConfig → Float
 minSinkRate config = neg gravity ·ᶠ config .«min_sink_mps»
 
--- from least to greatest airspeed; crossed, the least wins
+-- From least to greatest airspeed. No valid configuration has them crossed (document 02, K8); `greatest` stays as in the Rust, for
+-- every configuration has an answer.
 unfoldable pub clampAirspeed : TecsConfig → Float → Float
 clampAirspeed config airspeed = clamp airspeed (config .«min_airspeed_mps») (greatest (config .«max_airspeed_mps») (config .«min_airspeed_mps»))
 

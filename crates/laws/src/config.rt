@@ -1,4 +1,4 @@
-// The configuration: 33 numbers, numbered in the order of `validate`.
+// The configuration: 33 numbers, numbered in the order of `validate`, which looks at two pairs of them last, as fields 34 and 35.
 use crate::types::Vec3;
 use arithmetic::order::is_finite;
 use arithmetic::trigonometry::FRAC_PI_2;
@@ -93,6 +93,13 @@ fn check_share(field: u32, value: f32, rest: u32) -> u32
     }
 }
 
+// Document 02, K8: a least value above its greatest fails; equal ones pass, zeros of two signs too.
+fn check_ordered(field: u32, least: f32, greatest: f32, rest: u32) -> u32
+    ensures { λ r. ⌜ r ≡ cond (spec.ordered least greatest) rest field ⌝ }
+{
+    if least > greatest { field } else { rest }
+}
+
 // Fields 1 to 14; `rest` where all of them pass.
 fn first_fields(c: PlaneGuidanceConfig, rest: u32) -> u32
     ensures { λ r. ⌜ r ≡ spec.firstFailing 1 (spec.firstTests c) rest ⌝ }
@@ -135,11 +142,13 @@ fn tecs_fields(t: TecsConfig, rest: u32) -> u32
     check_positive(15, t.time_constant_s, n16)
 }
 
-// Fields 31 to 33.
+// Fields 31 to 33, and the two pairs, 34 and 35.
 fn last_fields(c: PlaneGuidanceConfig, rest: u32) -> u32
     ensures { λ r. ⌜ r ≡ spec.firstFailing 31 (spec.lastTests c) rest ⌝ }
 {
-    let n33 = check_limit(33, c.climb_thrust_per_rad, rest);
+    let n35 = check_ordered(35, c.min_thrust, c.max_thrust, rest);
+    let n34 = check_ordered(34, c.tecs.min_airspeed_mps, c.tecs.max_airspeed_mps, n35);
+    let n33 = check_limit(33, c.climb_thrust_per_rad, n34);
     let n32 = check_within(32, 0.0, c.max_thrust, 1.0, n33);
     check_within(31, 0.0, c.min_thrust, 1.0, n32)
 }
@@ -151,7 +160,7 @@ pub fn tecs_validate(t: TecsConfig) -> u32
     tecs_fields(t, 0)
 }
 
-// 0, or the number of the first failing field, 1 to 33.
+// 0, or the number of the first failing field, 1 to 35.
 pub fn validate(c: PlaneGuidanceConfig) -> u32
     ensures { λ r. ⌜ r ≡ spec.validate c ⌝ }
 {

@@ -1,5 +1,5 @@
 // Runs the laws on the rows of data/ and counts those that they answer as the rows say, bit for bit, every NaN alike. The files
-// named after a law are the oracle's rows, laws/ of its fixed list, where they are described; those of document 01's cases are made
+// named after a law are the oracle's rows, laws/ of its fixed list, where they are described; those of documents 01's and 02's cases are made
 // by tools/vectors/laws.py.
 mod check;
 mod rows;
@@ -33,5 +33,6 @@ fn main() {
     total = rows::try_group(b"document_01_pi_step", 10, 11, total);
     total = rows::try_group(b"document_01_update_underspeed", 11, 19, total);
     total = rows::try_group(b"document_01_validate", 16, 34, total);
+    total = rows::try_group(b"document_02_validate", 16, 34, total);
     print_count(b"total", total);
 }

@@ -133,6 +133,26 @@ fn configurations() {
         b"config_refused_33.lines",
     );
     case(
+        b"config_refused_34",
+        b"config_refused_34.recording",
+        b"config_refused_34.lines",
+    );
+    case(
+        b"config_refused_35",
+        b"config_refused_35.recording",
+        b"config_refused_35.lines",
+    );
+    case(
+        b"config_both_crossed",
+        b"config_both_crossed.recording",
+        b"config_both_crossed.lines",
+    );
+    case(
+        b"config_equal",
+        b"config_equal.recording",
+        b"config_equal.lines",
+    );
+    case(
         b"config_bad_and_cut",
         b"config_bad_and_cut.recording",
         b"config_bad_and_cut.lines",

@@ -188,32 +188,63 @@ def sticks():
     return lines + [call("land", step=0.1), call("land", step=0.1, regime=0), call("prime"), call("prime", regime=0)]
 
 
-def field_range(field):
-    """The largest valid number and one that fails, for a field."""
+def field_ends(field):
+    """A field's least number that passes with one below it that fails, and its greatest with one above it that fails."""
+    negative, finite = (0.0, 0x80000001), (0x7F7FFFFF, INFINITY)
     if field <= 3:
-        return 0x3FC90FDB, 0x3FC90FDC
+        return negative, (0x3FC90FDB, 0x3FC90FDC)
     if field == 7:
-        return 0xBFC90FDB, 0xBFC90FDC
+        return (0xBFC90FDB, 0xBFC90FDC), (0x3FC90FDB, 0x3FC90FDC)
     if field in (8, 31, 32):
-        return 1.0, 0x3F800001
+        return negative, (1.0, 0x3F800001)
     if field == 23:
-        return 2.0, 2.25
+        return negative, (2.0, 0x40000001)
     if field == 27:
-        return 1.0, 0.0
-    return 0x7F7FFFFF, INFINITY
+        return (0x00000001, 0.0), (1.0, 0x3F800001)
+    if field in (9, 10, 11, 15, 16, 17, 25, 26, 28, 29, 30):
+        return (0x00000001, 0.0), finite
+    return negative, finite
+
+
+# Least and greatest: K8 wants them in order.
+PAIRS = {25: 26, 26: 25, 31: 32, 32: 31}
+# Fields by number, and what is crossed: airspeed 34, thrust 35, both 34; a failing field comes first; equal ones pass.
+CROSSED = [
+    ({25: 25.0, 26: 10.0}, "airspeeds the wrong way round"),
+    ({25: 0x41C80001}, "the least airspeed one step above the greatest"),
+    ({31: 1.0, 32: 0.2}, "thrusts the wrong way round"),
+    ({32: 0x3E4CCCCC}, "the greatest thrust one step below the least"),
+    ({25: 25.0, 26: 10.0, 31: 1.0, 32: 0.2}, "both"),
+    ({25: 25.0, 26: 10.0, 33: -1.0}, "field 33 comes first"),
+]
+EQUAL = [
+    ({25: 12.0, 26: 12.0}, "equal airspeeds"),
+    ({31: 0.5, 32: 0.5}, "equal thrusts"),
+    ({31: 0.0, 32: MINUS_ZERO}, "zeros of two signs"),
+    ({31: MINUS_ZERO, 32: 0.0}, "zeros of two signs"),
+]
+
+
+def at_end(field, number):
+    """A configuration with this number in a field, and in the other of its pair."""
+    return configuration({field: number, PAIRS.get(field, field): number})
 
 
 def settings():
-    """A list: set-configuration calls, each field at its end and past it, between flights."""
+    """A list: set-configuration calls, each field at its ends and past them, between flights."""
     energy = "00 " + waypoint(**{**FLIGHT, "airspeed": 15.0})
     fallback = "00 " + waypoint(**FLIGHT)
     lines = [DEFAULTS, energy, fallback]
     for field in range(1, 34):
-        good, bad = field_range(field)
-        lines.append(f"01 {configuration({field: bad})} # field {field} fails")
+        for side, (good, bad) in zip(("least", "greatest"), field_ends(field)):
+            lines.append(f"01 {configuration({field: bad})} # field {field} past its {side}")
+            lines.append(f"01 {at_end(field, good)} # field {field} at its {side}")
+            lines.append(energy if field % 2 else fallback)
         lines.append(f"01 {configuration({field: NAN, 33: -1.0})} # the first failing field is named")
-        lines.append(f"01 {configuration({field: good})} # field {field} at its end")
-        lines.append(energy if field % 2 else fallback)
+    for numbers, remark in CROSSED + EQUAL:
+        lines += [f"01 {configuration(numbers)} # {remark}", energy, fallback]
+    overflow = waypoint(cruise=1.0, airspeed=10.0, velocity=[0.0, 0.0, 3e38])
+    lines += ["01 " + configuration({19: 0.0}), f"00 {overflow} # refused 4: the proportional thrust is NaN"]
     return lines + ["01 " + DEFAULTS, energy, energy]
 
 
@@ -221,12 +252,12 @@ def configurations():
     """Whole inputs, a line each: configurations that are taken, refused and stopped at."""
     lines = ["", "00", "00000000", DEFAULTS]
     for field in range(1, 34):
-        good, bad = field_range(field)
-        lines += [configuration({field: good}), configuration({field: bad}), configuration({field: NAN})]
-    zero_fails = (9, 10, 11, 15, 16, 17, 25, 26, 27, 28, 29, 30)
-    lines += [configuration({field: 0.0}) for field in zero_fails]
-    lines += [configuration({field: MINUS_ZERO}) for field in (1, 4, 7, 8, 12, 18, 23, 31, 32, 33, 27)]
-    lines += [configuration({9: -1.0, 3: -1.0, 33: -1.0}), configuration({23: 0x40000001})]
+        for good, bad in field_ends(field):
+            lines += [at_end(field, good), configuration({field: bad})]
+        lines.append(configuration({field: NAN}))
+    lines += [at_end(field, MINUS_ZERO) for field in (1, 4, 7, 8, 12, 18, 23, 31, 32, 33, 27)]
+    lines += [configuration({9: -1.0, 3: -1.0, 33: -1.0}), configuration({23: 2.25})]
+    lines += [f"{configuration(numbers)} # {remark}" for numbers, remark in CROSSED + EQUAL]
     lines += ["0000000002", "ffffffff02", "0000000080", "0100000000", "01000000000000", "0100000002 0000803f"]
     return lines + [configuration({1: NAN, 2: 0.5})[:-2] + " # cut short behind a bad field"]
 

@@ -1,4 +1,4 @@
-//! A configuration as document 01 has it: 33 numbers, in the order of `validate`.
+//! A configuration as document 01 has it: 33 numbers, in the order of `validate`, and document 02's two pairs.
 
 pub type Numbers = [f32; 33];
 
@@ -47,6 +47,27 @@ pub fn field_number(section: Option<&str>, field: &str) -> u32 {
     };
     let index = FIELDS.iter().position(|known| *known == name);
     index.expect("a field that `validate` names is one of the 33") as u32 + 1
+}
+
+/// The pairs of K8, least and greatest, by their places, and the number by which a crossed one fails.
+const PAIRS: [(usize, usize, u32); 2] = [(24, 25, 34), (30, 31, 35)];
+
+/// K8: the number of the first pair whose least is above its greatest, 0 if there is none. The Rust lets them pass.
+pub fn crossed(numbers: &Numbers) -> u32 {
+    let first = PAIRS.iter().find(|(least, greatest, _)| numbers[*least] > numbers[*greatest]);
+    first.map_or(0, |(_, _, number)| *number)
+}
+
+/// What the generators give where a pair came out crossed: the same numbers, exchanged. One that fails a check of its own stays.
+pub fn ordered(mut numbers: Numbers) -> Numbers {
+    if crate::flown::judge::validate(&numbers).is_ok() {
+        for (least, greatest, _) in PAIRS {
+            if numbers[least] > numbers[greatest] {
+                numbers.swap(least, greatest);
+            }
+        }
+    }
+    numbers
 }
 
 /// The Rust's `Default`.

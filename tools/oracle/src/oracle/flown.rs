@@ -1,6 +1,6 @@
 //! The published guidance behind one trait, for each of its three copies.
 
-use crate::configuration::{Numbers, field_number};
+use crate::configuration::{Numbers, crossed, field_number};
 use crate::record::{Command, Regime, Waypoint};
 
 /// The whole stored state. Of the energy state an absent number is +0.
@@ -66,9 +66,9 @@ pub trait Flown: Sized {
     fn copy(&self) -> Self;
 }
 
-/// The number of the first field that `validate` refuses, 0 if none.
+/// The number of the first field that `validate` refuses, or of the first crossed pair (K8), 0 if none.
 pub fn validate(numbers: &Numbers) -> u32 {
-    judge::validate(numbers).map_or_else(|field| field, |()| 0)
+    judge::validate(numbers).map_or_else(|field| field, |()| crossed(numbers))
 }
 
 macro_rules! flown {

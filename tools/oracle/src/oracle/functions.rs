@@ -19,13 +19,29 @@ pub struct Function {
 }
 
 impl Function {
-    /// An energy state that is not seeded has no numbers for demands and filters: +0 each.
+    /// An energy state that is not seeded has no numbers for demands and filters: +0 each. Least and greatest come in order (K8),
+    /// but for `validate`, which is there to refuse them.
     pub fn settle(&self, row: &mut [u32]) {
+        if self.name != "validate" {
+            self.order(row, ENERGY_COLUMNS, 10);
+            self.order(row, LIMITS_COLUMNS, 3);
+        }
         if self.columns.ends_with(ENERGY_STATE_COLUMNS) {
             let state = row.len() - ENERGY_STATE_COLUMNS.len();
             if row[state] == 0 {
                 row[state + 1..state + 6].fill(0);
             }
+        }
+    }
+
+    /// Puts the two numbers at a place of these columns in order, where the function has them.
+    fn order(&self, row: &mut [u32], columns: &str, place: usize) {
+        let Some(start) = self.columns.find(columns) else {
+            return;
+        };
+        let least = start + place;
+        if f32::from_bits(row[least]) > f32::from_bits(row[least + 1]) {
+            row.swap(least, least + 1);
         }
     }
 }

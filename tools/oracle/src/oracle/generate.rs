@@ -1,11 +1,13 @@
 //! Generated inputs, deterministic by kind and seed.
 
+mod crossed;
 mod damaged;
 mod flights;
 mod rare;
 mod ties;
 mod wild;
 
+use crate::configuration::ordered;
 use crate::desk::Form;
 use crate::numbers::{self, Random, Style};
 use crate::record::{self, Call, NAMED_BITS};
@@ -50,8 +52,10 @@ pub const KINDS: [&str; 4] = ["flights", "wild", "ties", "damaged"];
 
 /// An input of a kind, with about so many calls (`damaged` has few, and stops early).
 pub fn input(kind: &str, seed: u64, calls: usize) -> Option<Input> {
-    if kind == "rare" {
-        return Some(rare::input(seed, calls));
+    match kind {
+        "rare" => return Some(rare::input(seed, calls)),
+        "crossed" => return Some(crossed::input(seed, calls)),
+        _ => {}
     }
     let index = KINDS.iter().position(|known| *known == kind)?;
     let mut random = Random::new(seed * KINDS.len() as u64 + index as u64);
@@ -90,11 +94,11 @@ fn spelled(random: &mut Random, numbers: &crate::configuration::Numbers) -> Vec<
     bytes
 }
 
-/// A set-configuration call, one in four with a field that may fail.
+/// A set-configuration call, one in four with a field that may fail; no pair is crossed.
 fn set_configuration(random: &mut Random, style: Style) -> Item {
     let mut numbers = numbers::configuration(random, style);
     if random.once_in(4) {
         numbers[random.below(33)] = numbers::wild(random);
     }
-    Item::Set(spelled(random, &numbers))
+    Item::Set(spelled(random, &ordered(numbers)))
 }

@@ -1,7 +1,7 @@
 //! Document 01's calls over a guidance of the Rust: refusals 1 to 4 and the law names, with document 02's idle.
 
-use crate::configuration::Numbers;
-use crate::flown::{Flown, Setpoint};
+use crate::configuration::{Numbers, crossed};
+use crate::flown::{Flown, Setpoint, validate};
 use crate::lateral::distance;
 use crate::record::{Call, Command, Waypoint};
 
@@ -126,7 +126,10 @@ pub fn sound<F: Flown>(answer: &Answer, next: &F) -> bool {
     pitch.is_finite() && thrust.is_finite() && stored.iter().all(|number| number.is_finite())
 }
 
-/// A set-configuration call: the number of the first failing field if it is refused.
+/// A set-configuration call: the number of the first failing field if it is refused. The Rust gets ordered pairs only.
 pub fn set_configuration<F: Flown>(guidance: &mut F, numbers: &Numbers) -> Result<(), u32> {
-    guidance.set_config(numbers)
+    match crossed(numbers) {
+        0 => guidance.set_config(numbers),
+        _ => Err(validate(numbers)),
+    }
 }

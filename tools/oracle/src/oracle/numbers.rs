@@ -1,5 +1,7 @@
 //! Numbers for the generators, deterministic by seed.
 
+use crate::configuration::{self, Numbers, ordered};
+
 /// splitmix64.
 pub struct Random(u64);
 
@@ -169,9 +171,9 @@ pub fn configuration_columns() -> String {
     format!("aaacccAuTTTccc{ENERGY_COLUMNS}uuc")
 }
 
-/// A valid configuration: the defaults, with numbers changed by style.
-pub fn configuration(random: &mut Random, style: Style) -> crate::configuration::Numbers {
-    let mut numbers = crate::configuration::default();
+/// A valid configuration: the defaults, with numbers changed by style, and its pairs in order.
+pub fn configuration(random: &mut Random, style: Style) -> Numbers {
+    let mut numbers = configuration::default();
     for (number, letter) in numbers.iter_mut().zip(configuration_columns().chars()) {
         if odd(random, style) {
             *number = extreme(random, letter);
@@ -179,7 +181,7 @@ pub fn configuration(random: &mut Random, style: Style) -> crate::configuration:
             *number = ordinary(random, letter);
         }
     }
-    numbers
+    ordered(numbers)
 }
 
 /// One row of inputs: flags as 0 or 1, numbers as bits.

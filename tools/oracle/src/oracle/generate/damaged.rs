@@ -3,15 +3,18 @@
 
 use super::wild::first_fields;
 use super::{Fields, Input, Item, spelled};
+use crate::configuration::{crossed, ordered};
 use crate::numbers::{self, Random, Style, wild};
-use crate::record::{CALL_MAP_BYTES, CONFIGURATION_MAP_BYTES, KIND, LEG, REGIME, fields_bytes};
+use crate::record::{
+    CALL_MAP_BYTES, CONFIGURATION_MAP_BYTES, KIND, LEG, REGIME, configuration_bytes, fields_bytes, read_configuration,
+};
 
 pub fn input(random: &mut Random, calls: usize) -> Input {
     let numbers = numbers::configuration(random, Style::Ordinary);
     let mut configuration = spelled(random, &numbers);
     if random.once_in(6) {
         damage_configuration(random, &mut configuration);
-        return Input { configuration, items: Vec::new() };
+        return Input { configuration: in_order(configuration), items: Vec::new() };
     }
     let mut items = Vec::new();
     for _ in 0..random.below(calls.clamp(1, 4)) {
@@ -19,6 +22,14 @@ pub fn input(random: &mut Random, calls: usize) -> Input {
     }
     items.push(Item::Call(damaged_call(random)));
     Input { configuration, items }
+}
+
+/// A record that can be read has its pairs in order (K8); others stay as they are.
+fn in_order(bytes: Vec<u8>) -> Vec<u8> {
+    match read_configuration(&bytes, 0) {
+        Ok((numbers, _)) if crossed(&numbers) != 0 => configuration_bytes(&ordered(numbers)),
+        _ => bytes,
+    }
 }
 
 /// A configuration cut short, with an unnamed bit, with a failing field, or two of these.

@@ -3,7 +3,7 @@
 
 use super::wild::overflowing_integral;
 use super::{Fields, Input, Item, set, spelled, ties};
-use crate::configuration::Numbers;
+use crate::configuration::{Numbers, ordered};
 use crate::numbers::Random;
 use crate::record::*;
 
@@ -32,6 +32,7 @@ pub fn input(seed: u64, calls: usize) -> Input {
     let random = &mut Random::new(!seed);
     let mut numbers = ties::round_numbers();
     prepare(theme, random, &mut numbers);
+    let numbers = ordered(numbers);
     let configuration = spelled(random, &numbers);
     let mut items = Vec::new();
     while items.len() < calls {
@@ -81,7 +82,7 @@ fn climb_of_rate(rate: f32) -> f32 {
     climb
 }
 
-fn prime() -> Item {
+pub fn prime() -> Item {
     let mut fields: Fields = [None; NAMED_BITS as usize];
     fields[KIND as usize] = Some(0);
     Item::Call(fields_bytes(&fields))
@@ -95,7 +96,7 @@ fn one_changed(random: &mut Random, numbers: &Numbers) -> Item {
     let tops = [2.25, 2.0f32.next_up(), 1.0f32.next_up(), QUARTER.next_up(), -QUARTER.next_up(), 1.0, QUARTER, 3.0];
     let number = if random.once_in(2) { random.pick(&ends) } else { random.pick(&tops) };
     numbers[random.below(33)] = number;
-    Item::Set(spelled(random, &numbers))
+    Item::Set(spelled(random, &ordered(numbers)))
 }
 
 /// A waypoint at the plane's own place: time step, altitude and height, climb, cruise speed and airspeed.

@@ -2,7 +2,7 @@
 //! thresholds, the centre of the loiter, demands and limits that meet.
 
 use super::{Fields, Input, Item, set, set_configuration, spelled};
-use crate::configuration::{self, Numbers};
+use crate::configuration::{self, Numbers, ordered};
 use crate::numbers::{self, Random, Style};
 use crate::record::*;
 
@@ -52,7 +52,7 @@ fn configuration(random: &mut Random) -> Numbers {
         ]);
         numbers[field - 1] = random.pick(choices);
     }
-    numbers
+    ordered(numbers)
 }
 
 /// A number, or the next one to either side.
