@@ -81,6 +81,19 @@ static void must(int holds, const char *what)
     }
 }
 
+/* A skipper tries a wider bank and thinks better of it before the next call. The display hears of neither, and its answers stay
+ * the box's: a change and its taking back leave no trace. */
+static void try_wider_bank(nuthkolla_guidance *guidance)
+{
+    nuthkolla_config wider = guidance->config;
+    wider.max_bank_rad = 1.0f;
+    uint8_t record[NUTHKOLLA_CONFIG_BYTES];
+    size_t length = nuthkolla_write_config(record, sizeof record, 0, wider).next;
+    must(nuthkolla_run(guidance, NUTHKOLLA_SET_CONFIG, record, length).refusal == 0, "the wider bank is refused");
+    must(nuthkolla_run(guidance, NUTHKOLLA_TAKE_BACK, record, 0).refusal == 0, "nothing to take back");
+    must(nuthkolla_run(guidance, NUTHKOLLA_TAKE_BACK, record, 0).refusal == 14, "taken back twice");
+}
+
 int main(int count, char **words)
 {
     must(count == 2, "the name of the file for the lines is missing");
@@ -98,6 +111,8 @@ int main(int count, char **words)
 
     plane p = {0, 0, 0, 0.3, 14, 0, 0};
     for (int step = 0; step < STEPS; step++) {
+        if (step % 400 == 200)
+            try_wider_bank(&guidance);
         nuthkolla_place end = nuthkolla_write_call(record, sizeof record, 0, command(&p, step));
         must(end.refusal == 0, "no record");
         must(fwrite(record, 1, end.next, stdout) == end.next, "the cable is cut");

@@ -1,6 +1,6 @@
 /* Nuthkolla: guidance of small unmanned planes, for a host in C.
  *
- * The host holds a guidance, a plain struct of 176 bytes, and runs calls on it. Every function answers every
+ * The host holds a guidance, a plain struct of 312 bytes, and runs calls on it. Every function answers every
  * value of its arguments. What a caller owes is C's own, and no proof covers it:
  *   - a pointer points to as many initialised bytes as its length says, and is not null even where that is 0;
  *   - a pointer to a guidance points to an initialised one, before NUTHKOLLA_NEW too (zeros will do);
@@ -29,6 +29,7 @@
  * of a writer:
  *   7  a kind is above 6, or a regime above 1
  *   8  a buffer has too few bytes from the named place, or the place is past its end
+ *  14  no change is left to take back
  * A refused call changes no guidance and no buffer.
  */
 #ifndef NUTHKOLLA_H
@@ -113,6 +114,10 @@ typedef struct nuthkolla_guidance {
         float integral; /* m s */
     } altitude;
     nuthkolla_tecs tecs;
+    struct {
+        uint32_t kept;           /* 0: no change is left to take back */
+        nuthkolla_config config; /* before the last accepted change; the default configuration where none is kept */
+    } former;
 } nuthkolla_guidance;
 
 /* ---- calls on a guidance */
@@ -120,7 +125,8 @@ typedef struct nuthkolla_guidance {
 enum {
     NUTHKOLLA_CALL = 0,       /* bytes: a call record, a guide or prime call */
     NUTHKOLLA_SET_CONFIG = 1, /* bytes: a configuration record, which becomes the configuration */
-    NUTHKOLLA_NEW = 2         /* bytes: a configuration record, from which a fresh guidance is made */
+    NUTHKOLLA_NEW = 2,        /* bytes: a configuration record, from which a fresh guidance is made */
+    NUTHKOLLA_TAKE_BACK = 3   /* no bytes: the configuration before the last accepted change is in force again */
 };
 
 enum { NUTHKOLLA_NO_SETPOINT = 0, NUTHKOLLA_PLANE = 1, NUTHKOLLA_PLANE_RATE = 2 };
@@ -140,17 +146,21 @@ typedef struct nuthkolla_answer {
     float thrust;      /* 0 to 1 */
     float cross_track_m; /* of a waypoint the distance off its line, the leg or the loiter's tangent: m, right positive; may be
                             infinite or NaN; +0 where it is idle or within 1e-3 m of a loiter's centre; else 0 */
-    size_t next;       /* the place after the record; 0 where no record was read (refusals 5, 6, 7, 255) */
+    size_t next;       /* the place after the record; 0 where no record was read (refusals 5, 6, 7, 255; a taking back) */
 } nuthkolla_answer;
 
 /* Runs one call on the host's guidance. `bytes` is one record, read from its first byte; bytes behind it are
  * not read, and `next` says where it ended.
  *   NUTHKOLLA_CALL        refusals 5, 6, 7 of the record; then 2, 3, 4 of a guide call. A prime answers without
  *                         a setpoint. A guide call answers a setpoint, a waypoint its two laws too.
- *   NUTHKOLLA_SET_CONFIG  refusals 5, 6 of the record; then 1 with its field. Integrals and demands are kept.
+ *   NUTHKOLLA_SET_CONFIG  refusals 5, 6 of the record; then 1 with its field. Integrals and demands are kept, and
+ *                         the configuration that was in force, to be taken back.
  *   NUTHKOLLA_NEW         the same refusals; otherwise the guidance becomes a fresh one, whatever it was. It is
  *                         read before, and kept where it is refused, so it has to be initialised:
  *                         nuthkolla_guidance guidance = {0};
+ *   NUTHKOLLA_TAKE_BACK   no byte is read. Refusal 14 where no change is left to take back; otherwise the
+ *                         configuration before the last accepted change is in force again and is forgotten;
+ *                         integrals and demands are kept.
  *   any other number      refusal 255
  * What is proved: the answer and the whole guidance afterwards, for every input, equal the definitions that
  * docs/HOST.md names; and of every list of numbers and bytes that is run on a guidance from an accepted

@@ -18,7 +18,7 @@ use std::time::Instant;
 
 #[repr(C)]
 #[derive(Clone, Copy)]
-struct Held([u32; 44]);
+struct Held([u32; 78]);
 
 #[repr(C)]
 #[derive(Clone, Copy, Default, Debug)]
@@ -212,7 +212,7 @@ struct Recording {
 }
 
 fn recording(input: &[u8]) -> Recording {
-    let mut ours = Held([0; 44]);
+    let mut ours = Held([0; 78]);
     let made = unsafe { nuthkolla_run(&mut ours, 2, input.as_ptr(), input.len()) };
     assert_eq!(made.refusal, 0, "a recording begins with a valid configuration");
     let mut config = PlaneGuidanceConfig::default();

@@ -1,9 +1,9 @@
-/* Demand 3 run on the archive: document 01, "Guidance", checked on lists of guide, prime and set-configuration calls.
+/* Demand 3 run on the archive: document 01, "Guidance", checked on lists of guide, prime, set-configuration and take-back calls.
  *     demand3 [--plant FAULT] < LISTS
  * LISTS: `oracle generate-many KIND SEED INPUTS CALLS list`. Of each list are checked
  *   struck    without the struck calls, each remaining call gives its whole first answer again
  *   fresh     after each prime and each accepted command other than a waypoint, every call that follows is answered as by a fresh
- *             guidance with the configuration in force, refusal numbers too
+ *             guidance with the configuration in force and the kept one, refusal numbers too
  *   limits    each accepted waypoint answer, by the configuration in force and underspeed worked out from the calls
  * bit for bit, every NaN alike. A pass is a list of which all of this holds. A planted fault must make lists fail: see `plants`. */
 #include "lines.h"
@@ -22,6 +22,8 @@ typedef struct entry {
     nuthkolla_answer answer; /* in the list as first run */
     uint32_t law;            /* of a waypoint the vertical law that its numbers make it, else 0 */
     nuthkolla_config config; /* in force after the call */
+    int kept;                /* whether a change can be taken back after it, and the configuration before that change */
+    nuthkolla_config former;
     int underspeed, struck;
 } entry;
 
@@ -30,9 +32,12 @@ static entry entries[MOST_CALLS];
 static unsigned long list_number;
 static unsigned long calls, struck, repeated, starts, beside_fresh, checked[4], full_thrust;
 
-/* Faults of the guidance (trace, prime, full) and of this program (strike, narrow). */
-static const char *const plants[] = {"none", "trace", "prime", "full", "strike", "narrow"};
-enum { NONE, TRACE, PRIME, FULL, STRIKE, NARROW, PLANTS };
+/* Faults of the guidance (trace, prime, full, forget) and of this program (strike, narrow). */
+static const char *const plants[] = {"none", "trace", "prime", "full", "forget", "strike", "narrow"};
+enum { NONE, TRACE, PRIME, FULL, FORGET, STRIKE, NARROW, PLANTS };
+
+/* A list's byte for a taking back, which has no record. */
+enum { BACK = 2 };
 static int plant;
 
 static int failed(size_t at, const char *what)
@@ -53,6 +58,8 @@ static nuthkolla_answer perform(nuthkolla_guidance *g, const entry *e)
         g->tecs.thrust_integral += 0.125f;
     if (plant == PRIME && e->what == NUTHKOLLA_CALL && e->bytes[4] == NUTHKOLLA_PRIME)
         g->tecs.thrust_integral = integral;
+    if (plant == FORGET && e->what == NUTHKOLLA_CALL && e->bytes[4] == NUTHKOLLA_PRIME)
+        g->former.kept = 0;
     if (plant == FULL && a.vertical == NUTHKOLLA_ENERGY && g->tecs.underspeed != 0)
         a.thrust *= 0.75f;
     return a;
@@ -114,8 +121,8 @@ static size_t first_run(const uint8_t *list, size_t length)
 {
     nuthkolla_guidance g = {0};
     nuthkolla_answer made = nuthkolla_run(&g, NUTHKOLLA_NEW, list, length);
-    nuthkolla_config config = nuthkolla_read_config(list, length, 0).config;
-    int underspeed = 0;
+    nuthkolla_config config = nuthkolla_read_config(list, length, 0).config, former = config;
+    int underspeed = 0, kept = 0;
     size_t n = 0, place = made.next;
     if (made.refusal != 0)
         return 0;
@@ -125,8 +132,12 @@ static size_t first_run(const uint8_t *list, size_t length)
         e->what = list[place++];
         e->bytes = list + place;
         e->length = length - place;
+        if (e->what == BACK) {
+            e->what = NUTHKOLLA_TAKE_BACK;
+            e->length = 0;
+        }
         e->answer = perform(&g, e);
-        if (e->answer.next == 0)
+        if (e->answer.next == 0 && e->what != NUTHKOLLA_TAKE_BACK)
             return 0;
         e->length = e->answer.next;
         place += e->length;
@@ -134,23 +145,40 @@ static size_t first_run(const uint8_t *list, size_t length)
             e->call = call_of(e->bytes);
             e->law = is_waypoint(e) ? vertical_law(&e->call) : 0;
         }
-        if (accepted(e) && !is_call(e))
+        if (accepted(e) && e->what == NUTHKOLLA_SET_CONFIG) {
+            former = config;
+            kept = 1;
             config = nuthkolla_read_config(e->bytes, e->length, 0).config;
+        }
+        if (accepted(e) && e->what == NUTHKOLLA_TAKE_BACK) {
+            config = former;
+            kept = 0;
+        }
         e->config = config;
+        e->kept = kept;
+        e->former = former;
         e->underspeed = underspeed = accepted(e) ? underspeed_after(e, underspeed) : underspeed;
     }
     return place < length ? 0 : n;
 }
 
-static nuthkolla_guidance fresh_with(nuthkolla_config config)
+static void configure(nuthkolla_guidance *g, uint32_t what, nuthkolla_config config)
 {
     uint8_t record[NUTHKOLLA_CONFIG_BYTES];
-    nuthkolla_guidance g = {0};
     nuthkolla_place p = nuthkolla_write_config(record, sizeof record, 0, config);
-    if (nuthkolla_run(&g, NUTHKOLLA_NEW, record, p.next).refusal != 0) {
+    if (nuthkolla_run(g, what, record, p.next).refusal != 0) {
         printf("a configuration in force is refused\n");
         exit(1);
     }
+}
+
+/* A fresh guidance with the configuration in force after a call, and with the one kept that was kept then. */
+static nuthkolla_guidance fresh_after(const entry *e)
+{
+    nuthkolla_guidance g = {0};
+    configure(&g, NUTHKOLLA_NEW, e->kept ? e->former : e->config);
+    if (e->kept)
+        configure(&g, NUTHKOLLA_SET_CONFIG, e->config);
     return g;
 }
 
@@ -196,7 +224,7 @@ static int check_fresh(size_t n)
     for (size_t i = 0; i < n; i++) {
         if (!starts_fresh(&entries[i]))
             continue;
-        nuthkolla_guidance g = fresh_with(entries[i].config);
+        nuthkolla_guidance g = fresh_after(&entries[i]);
         starts++;
         for (size_t j = i + 1; j < n; j++) {
             nuthkolla_answer a = perform(&g, &entries[j]);

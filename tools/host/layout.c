@@ -60,6 +60,8 @@ int main(void)
     AT(nuthkolla_guidance, tecs.underspeed);
     AT(nuthkolla_guidance, tecs.filtered_airspeed_mps);
     AT(nuthkolla_guidance, tecs.steady_accel_mps2);
+    AT(nuthkolla_guidance, former.kept);
+    AT(nuthkolla_guidance, former.config);
     SIZE(nuthkolla_answer);
     AT(nuthkolla_answer, refusal);
     AT(nuthkolla_answer, field);
@@ -104,6 +106,7 @@ int main(void)
     NUMBER(NUTHKOLLA_CALL);
     NUMBER(NUTHKOLLA_SET_CONFIG);
     NUMBER(NUTHKOLLA_NEW);
+    NUMBER(NUTHKOLLA_TAKE_BACK);
     NUMBER(NUTHKOLLA_CALL_BYTES);
     NUMBER(NUTHKOLLA_CONFIG_BYTES);
     return 0;

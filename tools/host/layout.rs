@@ -76,6 +76,8 @@ fn main() {
     at!("nuthkolla_guidance.tecs.underspeed", ffi::Guidance, tecs.underspeed);
     at!("nuthkolla_guidance.tecs.filtered_airspeed_mps", ffi::Guidance, tecs.filtered_airspeed_mps);
     at!("nuthkolla_guidance.tecs.steady_accel_mps2", ffi::Guidance, tecs.steady_accel_mps2);
+    at!("nuthkolla_guidance.former.kept", ffi::Guidance, former.kept);
+    at!("nuthkolla_guidance.former.config", ffi::Guidance, former.config);
     size!("nuthkolla_answer", ffi::Answer);
     at!("nuthkolla_answer.refusal", ffi::Answer, refusal);
     at!("nuthkolla_answer.field", ffi::Answer, field);
@@ -120,6 +122,7 @@ fn main() {
     println!("NUTHKOLLA_CALL {}", ffi::CALL);
     println!("NUTHKOLLA_SET_CONFIG {}", ffi::SET_CONFIG);
     println!("NUTHKOLLA_NEW {}", ffi::NEW);
+    println!("NUTHKOLLA_TAKE_BACK {}", ffi::TAKE_BACK);
     println!("NUTHKOLLA_CALL_BYTES {}", CALL_BYTES);
     println!("NUTHKOLLA_CONFIG_BYTES {}", CONFIG_BYTES);
 }

@@ -42,7 +42,7 @@ static void fill_words(void *to, size_t words)
 
 static void check(const nuthkolla_answer *a)
 {
-    expect(a->refusal <= 8 || a->refusal == NUTHKOLLA_UNKNOWN, "refusal's number");
+    expect(a->refusal <= 8 || a->refusal == 14 || a->refusal == NUTHKOLLA_UNKNOWN, "refusal's number");
     expect((a->refusal == 1) == (a->field != 0), "field of refusal 1 alone");
     expect(a->field <= 35, "field's number");
     expect(a->setpoint <= 2 && a->lateral <= 3 && a->vertical <= 3, "kind and laws");
@@ -61,7 +61,7 @@ int main(int count, char **words)
     for (unsigned long n = 0; n < calls; n++) {
         uint8_t record[NUTHKOLLA_CONFIG_BYTES] = {0};
         size_t length = sizeof record;
-        uint32_t what = any() % 8 < 6 ? 0 : any() % 4;
+        uint32_t what = any() % 8 < 6 ? 0 : any() % 5;
         if (any() % 16 == 0)
             fill_words(&g, sizeof g / 4);
         if (what == 0 && any() % 8 != 0) {
@@ -93,6 +93,10 @@ int main(int count, char **words)
             expect(memcmp(&g, &before, sizeof g) == 0, "a refusal keeps the guidance");
         if (what == 0)
             expect(memcmp(&g.config, &before.config, sizeof g.config) == 0, "a call keeps the configuration");
+        if (what == NUTHKOLLA_CALL)
+            expect(memcmp(&g.former, &before.former, sizeof g.former) == 0, "a call keeps the kept configuration");
+        if (what == NUTHKOLLA_TAKE_BACK)
+            expect((a.refusal == 14) == (before.former.kept == 0), "refusal 14");
         *(a.refusal == 0 ? &accepted : &refused) += 1;
         free(lent);
     }

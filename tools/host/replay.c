@@ -9,12 +9,27 @@ static uint8_t all[1 << 26];
 static const uint8_t *input;
 static int list, state;
 
+/* A list's byte for a taking back, which has no record; 0 and 1 are the archive's numbers too. */
+enum { BACK = 2 };
+
+/* A sum of a configuration's bits, so that a state line shows whether it changed. */
+static uint32_t sum(const nuthkolla_config *config)
+{
+    float numbers[sizeof *config / sizeof(float)];
+    memcpy(numbers, config, sizeof *config);
+    uint32_t found = 0;
+    for (size_t n = 0; n < sizeof numbers / sizeof *numbers; n++)
+        found = found * 16777619u + bits(numbers[n]);
+    return found;
+}
+
 static void print_state(unsigned long number, const nuthkolla_guidance *g)
 {
     const nuthkolla_tecs *t = &g->tecs;
-    printf("%lu state %u %08x %u %08x %08x %08x %08x %08x %08x %08x %u\n", number, g->requested != 0, bits(g->altitude.integral), t->seeded != 0,
+    printf("%lu state %u %08x %u %08x %08x %08x %08x %08x %08x %08x %u %u %08x %08x\n", number, g->requested != 0, bits(g->altitude.integral), t->seeded != 0,
         bits(t->demand.slewed_height_m), bits(t->demand.height_m), bits(t->demand.airspeed_mps), bits(t->filtered_airspeed_mps),
-        bits(t->steady_accel_mps2), bits(t->pitch_integral_rad), bits(t->thrust_integral), t->underspeed != 0);
+        bits(t->steady_accel_mps2), bits(t->pitch_integral_rad), bits(t->thrust_integral), t->underspeed != 0,
+        g->former.kept != 0, sum(&g->config), sum(&g->former.config));
 }
 
 /* A refusal of a record, after which nothing more is read. */
@@ -31,6 +46,8 @@ static int entry(nuthkolla_guidance *g, unsigned long number, uint32_t what, siz
     *place += a.next;
     if (what == NUTHKOLLA_CALL)
         print_answer(stdout, number, &a);
+    else if (what == NUTHKOLLA_TAKE_BACK)
+        printf(a.refusal == 0 ? "%lu back\n" : "%lu refused 14\n", number);
     else if (a.refusal == 0)
         printf("%lu set\n", number);
     else
@@ -59,10 +76,12 @@ static void run(size_t length)
         }
         if (list) {
             what = input[place++];
-            if (what > 1) {
+            if (what > BACK) {
                 printf("%lu stopped tag\n", number);
                 return;
             }
+            if (what == BACK)
+                what = NUTHKOLLA_TAKE_BACK;
         }
         if (!entry(&g, number, what, length, &place))
             return;

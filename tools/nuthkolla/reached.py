@@ -10,9 +10,10 @@ ANSWERS = {
     "rate": " rate ",
     "prime": " prime\n",
     "set": " set\n",
+    "back": " back\n",
     "refused 1, set": " refused 1 ",
     "refused 1, first configuration": "config refused ",
-    **{f"refused {number}": f" refused {number}\n" for number in (2, 3, 4)},
+    **{f"refused {number}": f" refused {number}\n" for number in (2, 3, 4, 14)},
     **{f"stopped {number}, configuration": f"config stopped {number}\n" for number in (5, 6)},
     **{f"stopped {number}": f" stopped {number}\n" for number in (5, 6, 7, 9)},
 }
@@ -24,10 +25,10 @@ RECORDS = {
 
 # The oracle's sections of counts, with every name that must be met.
 SECTIONS = {
-    "answers": [name for name in ANSWERS if not name.startswith(("set", "stopped", "refused 1"))],
+    "answers": [name for name in ANSWERS if not name.startswith(("set", "back", "stopped", "refused 1"))],
     "caps": ["+0", "-0", "NaN", "above 0", "below 0", "none"],
     "commands": ["absolute attitude", "absolute rate", "attitude", "land", "prime", "rate", "waypoint"],
-    "configurations": [*(f"refused, field {field:2}" for field in range(1, 36)), "set", "taken"],
+    "configurations": [*(f"refused, field {field:2}" for field in range(1, 36)), "set", "taken", "taken back", "refused 14"],
     "energy steps": ["first step, no underspeed", "later step, no underspeed", "later step, underspeed stood"],
     "fallbacks": ["airspeed NaN", "airspeed below 0", "cruise speed NaN", "cruise speed not above 0", "no airspeed"],
     "holds": [

@@ -2,7 +2,7 @@
 
 from nuthkolla import record
 
-CALL, CONFIGURATION = 0, 1
+CALL, CONFIGURATION, BACK = 0, 1, 2
 
 
 def calls_of(data, tagged):
@@ -13,6 +13,9 @@ def calls_of(data, tagged):
         while place < len(data):
             ends.append(place)
             at = place + tagged
+            if tagged and data[place] == BACK:
+                place = at
+                continue
             read = record.read_configuration if tagged and data[place] == CONFIGURATION else record.read_call
             _, place = read(data, at)
     except record.Refusal:

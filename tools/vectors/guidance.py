@@ -9,7 +9,7 @@ worked out here, from document 01's form of a fallback's limits.
 
 A row is 53 u32 words, low byte first. Numbers are their bits, every NaN 7fc00000; what a row does not use is 0.
 
-    0       kind: that of a call record, 7 set-configuration, 8 new
+    0       kind: that of a call record, 7 set-configuration, 8 new, 9 a taking back
     1..33   of 7 and 8: the configuration
     1..24   of a call: regime; time step; four command numbers; waypoint; leg (1 if present, x, y); altitude; cruise speed;
             position; velocity; roll; airspeed (1 if present, number); cap (likewise)
@@ -29,7 +29,7 @@ HERE = pathlib.Path(__file__).resolve().parent
 CRATE = HERE.parent.parent / "crates/guidance_cases"
 FIXED = HERE.parent / "oracle/fixed"
 WORDS = 53
-PRIME, WAYPOINT, SET_CONFIG, NEW = 0, 3, 7, 8
+PRIME, WAYPOINT, SET_CONFIG, NEW, TAKE_BACK = 0, 3, 7, 8, 9
 sys.path.insert(0, str(FIXED))
 import by_hand  # noqa: E402
 
@@ -51,6 +51,9 @@ FIGURES = {
     **{("ties-by-hand", n): "loiter fallback 3f490fdb 00000000 3f000000" for n in (36, 37)},
     ("ties-by-hand", 40): "track fallback 00000000 00000000 3f000000",  # position NaN
     ("ties-by-hand", 27): "loiter fallback 3f490fdb 00000000 3f000000",  # loiter at velocity (1e30, 0) from (100, 7)
+    ("takings-back", 28): "refused 4",  # a waypoint that the changed setting refuses
+    ("takings-back", 30): "idle energy 00000000 bd57f532 3f19d67b",  # after it and the taking back
+    ("takings-back", 33): "idle energy 00000000 bedf66f3 3e4ccccd",  # the same without the change
     ("ties-by-hand", 28): "loiter fallback 3f1405d0 00000000 3f000000",  # loiter, position NaN
 }
 
@@ -107,7 +110,7 @@ def answer(line):
     """Words 34 to 41 of a line."""
     said = line.split()[1:]
     bits = lambda texts: ([int(text, 16) for text in texts] + [0] * 4)[:4]
-    if said[0] in ("set", "prime"):
+    if said[0] in ("set", "prime", "back"):
         return [0] * 8
     if said[0] == "refused":
         return [int(said[-1])] + [0] * 7
@@ -133,7 +136,7 @@ MODES = modes()
 
 
 def row(words, answered, after):
-    if words[0] not in (SET_CONFIG, NEW):
+    if words[0] not in (SET_CONFIG, NEW, TAKE_BACK):
         words = words + [0] * (25 - len(words)) + MODES[after[0]]
     padded = words + [0] * (34 - len(words)) + answered + after
     assert len(padded) == WORDS
@@ -161,6 +164,8 @@ def recording(path, is_list):
         if tag == 1:
             words, at = configuration(data, at)
             words = [SET_CONFIG] + words
+        elif tag == 2:
+            words = [TAKE_BACK]
         else:
             words, at = call(data, at)
         rows.append(row(words, answer(line), state(after)))

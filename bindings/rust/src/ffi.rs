@@ -14,6 +14,14 @@ pub struct Tecs {
     pub steady_accel_mps2: f32,
 }
 
+/// The configuration before the last accepted change; where `kept` is 0 there is none to take back.
+#[repr(C)]
+#[derive(Clone, Copy, Debug, Default, PartialEq)]
+pub struct Former {
+    pub kept: u32,
+    pub config: crate::PlaneGuidanceConfig,
+}
+
 #[repr(C)]
 #[derive(Clone, Copy, Debug, Default, PartialEq)]
 pub struct Guidance {
@@ -21,6 +29,7 @@ pub struct Guidance {
     pub requested: u32,
     pub altitude_integral: f32,
     pub tecs: Tecs,
+    pub former: Former,
 }
 
 #[repr(C)]
@@ -78,6 +87,7 @@ pub struct ConfigRead {
 pub const CALL: u32 = 0;
 pub const SET_CONFIG: u32 = 1;
 pub const NEW: u32 = 2;
+pub const TAKE_BACK: u32 = 3;
 
 extern "C" {
     pub fn nuthkolla_run(guidance: *mut Guidance, what: u32, bytes: *const u8, length: usize) -> Answer;

@@ -144,6 +144,27 @@ impl PlaneGuidance {
         Ok(self.run(ffi::SET_CONFIG, record)?.next)
     }
 
+    /// Takes the last accepted change of the configuration back: the one before it is in force again and is forgotten; integrals and
+    /// demands stay.
+    ///
+    /// ```
+    /// use nuthkolla::{PlaneGuidance, PlaneGuidanceConfig, Refusal};
+    ///
+    /// let mut guidance = PlaneGuidance::new(PlaneGuidanceConfig::default())?;
+    /// guidance.set_config(PlaneGuidanceConfig { max_bank_rad: 1.0, ..Default::default() }).expect("1 is below a quarter turn");
+    /// guidance.take_back()?;
+    /// assert_eq!(guidance.config(), &PlaneGuidanceConfig::default());
+    /// assert_eq!(guidance.take_back(), Err(Refusal::NothingKept));
+    /// # Ok::<(), Refusal>(())
+    /// ```
+    ///
+    /// # Errors
+    ///
+    /// Refusal 14.
+    pub fn take_back(&mut self) -> Result<(), Refusal> {
+        self.run(ffi::TAKE_BACK, &[]).map(|_| ())
+    }
+
     pub fn config(&self) -> &PlaneGuidanceConfig {
         &self.held.config
     }

@@ -377,6 +377,8 @@ pub enum Refusal {
     Kind,
     /// 8: the buffer has too few bytes from the place on.
     Room,
+    /// 14: no change is left to take back.
+    NothingKept,
 }
 
 impl Refusal {
@@ -391,6 +393,7 @@ impl Refusal {
             Refusal::Map => 6,
             Refusal::Kind => 7,
             Refusal::Room => 8,
+            Refusal::NothingKept => 14,
         }
     }
 
@@ -404,6 +407,7 @@ impl Refusal {
             5 => Refusal::Short,
             6 => Refusal::Map,
             7 => Refusal::Kind,
+            14 => Refusal::NothingKept,
             _ => Refusal::Room,
         })
     }

@@ -10,14 +10,15 @@ use Rattle.claims.specs.Demand3.{Demand3}
 use Rattle.claims.proofs.Alike.{alike-refl}
 use Rattle.claims.proofs.Strike.{strike, start}
 use Rattle.claims.proofs.Limited.{limited, still-valid}
-use Rattle.claims.proofs.Runs.{valid-along}
+use Rattle.claims.proofs.Runs.{both-valid-along}
 
 pub demand3 : (c : PlaneGuidanceConfig) → validate c ≡ 0 → (calls : List Call) → Demand3 c calls
 unfolding fresh
 demand3 c e calls = record {
   struck = strike (fresh c) (fresh c) false (alike-refl (fresh c)) (λ b. refl) calls;
   fresh-start = λ before k rest at h. record {
-    valid = still-valid (after (fresh c) before) k (valid-along c e before);
+    valid = still-valid (after (fresh c) before) k (both-valid-along c e before) .in-force;
+    kept-valid = still-valid (after (fresh c) before) k (both-valid-along c e before) .kept;
     same = start (after (fresh c) before) k rest h;
   };
   limits = limited c e calls;

@@ -5,6 +5,7 @@ pub mod Limited
 pub mod Runs
 pub mod Demand3
 pub mod Validity
+pub mod Undone
 mod Spans
 pub mod Clamps
 mod Variants

@@ -13,7 +13,7 @@ use Rattle.arithmetic.specs.Order.{greatest, clamp, finite, choose}
 use Rattle.arithmetic.specs.Trigonometry.{arctangent}
 use Rattle.arithmetic.proofs.Bounds.{never, and-left, and-right, le-self, left-number, right-number, finite-number, clamped-low, clamped-high, unclamped, zero-between, greatest-right, greatest-le, least-zero, least-finite, zero-number, eq-self}
 use Rattle.arithmetic.proofs.Sums.{le-trans, sub-mono, neg-finite, between-finite, add-number}
-use Rattle.laws.specs.Config.{within, validate}
+use Rattle.laws.specs.Config.{within, firstFailing, tecsDefault, default, validate}
 use Rattle.laws.proofs.Validated.{valid-field}
 use Rattle.laws.specs.Math.{limitOrZero, clampSymmetric}
 use Rattle.laws.specs.Types.{gravity, validAirspeed}
@@ -35,14 +35,15 @@ use Rattle.laws.specs.declared.types.ControlInput.the-variants as Input
 use Rattle.laws.specs.declared.types.FlightRegime.{FlightRegime}
 use Rattle.laws.specs.declared.types.VehicleState.{VehicleState}
 use Rattle.laws.specs.declared.types.Setpoint.{Setpoint}
-use Rattle.guidance.specs.Plane.{northEast, orZero, capped, topThrust, limitsOf, inputs, rollOf, heightError, fallback, vertical, verticalLaw, steered, finiteState, allFinite, fresh, cleared, primed, withConfig, configured, badTimeStep, badCap, refusal, flown, settled, commanded, waypoint, obeyed, guided}
-use Rattle.claims.specs.Calls.{Call, guide, prime, setConfig, Reply, answered, done, field, Outcome, answeredBy, perform, refused, replies}
+use Rattle.guidance.specs.Plane.{noFormer, northEast, orZero, capped, topThrust, limitsOf, inputs, rollOf, heightError, fallback, vertical, verticalLaw, steered, finiteState, allFinite, fresh, cleared, primed, withConfig, configured, restored, takenBack, badTimeStep, badCap, refusal, flown, settled, commanded, waypoint, obeyed, guided}
+use Rattle.claims.specs.Calls.{Call, guide, prime, setConfig, takeBack, Reply, answered, done, field, back, Outcome, answeredBy, perform, refused, replies}
 use Rattle.claims.specs.Limits.{InForce, atStart, underspeedAt, underspeedBy, underspeedAfter, inForceAfter, Between, InSpan, EnergyLimits, HoldLimits, Corrected, FallbackPitch, FallbackLimits, VerticalLimits, WaypointLimits, Obeys, AllObey}
 use Rattle.guidance.specs.declared.plane.PlaneGuidance.{PlaneGuidance}
 use Rattle.guidance.specs.declared.plane.VerticalLaw.{VerticalLaw}
 use Rattle.guidance.specs.declared.plane.VerticalLaw.the-variants.{Energy, Hold, Fallback}
 use Rattle.guidance.specs.declared.plane.Answer.the-variants.{Refused}
 use Rattle.guidance.specs.declared.plane.Guided.{Guided}
+use Rattle.guidance.specs.declared.plane.TakenBack.{TakenBack}
 use Rattle.guidance.specs.declared.plane.Vertical.{Vertical}
 
 -- ---- what a valid configuration has
@@ -157,14 +158,14 @@ flag-updated was t airspeed = flag-cond (lt airspeed (t .«underspeed_share» ·
 
 -- ---- one waypoint
 abbrev pub inForceOf : PlaneGuidance → InForce
-inForceOf g = record { config = g .config; underspeed = flag (g .tecs .underspeed) }
+inForceOf g = record { config = g .config; former = g .former; underspeed = flag (g .tecs .underspeed) }
 
 module _ (g : PlaneGuidance) (dt : Float) (w : WaypointCommand) (s : VehicleState) (cap : OptionF32) (v : Valid (g .config)) (q : badCap cap ≡ false) where
   abbrev result : VerticalLaw → Vertical
   result l = vertical l (g .config) (g .altitude) (g .tecs) dt w s cap
 
   abbrev then : VerticalLaw → InForce
-  then l = record { config = g .config; underspeed = underspeedBy l (inForceOf g) s }
+  then l = record { config = g .config; former = g .former; underspeed = underspeedBy l (inForceOf g) s }
 
   energy-within : finite (result Energy .«pitch_rad») ≡ true → finite (result Energy .thrust) ≡ true →
       EnergyLimits (then Energy) cap (result Energy .«pitch_rad») (result Energy .thrust)
@@ -305,7 +306,7 @@ module _ (g : PlaneGuidance) (dt : Float) (regime : FlightRegime) (s : VehicleSt
             lateral-name = refl;
             vertical-name = refl;
           };
-          agrees = ap (λ (u : Bool). record { config = g .config; underspeed = u }) (stored-underspeed g dt w s cap v q (verticalLaw dt w s));
+          agrees = ap (λ (u : Bool). record { config = g .config; former = g .former; underspeed = u }) (stored-underspeed g dt w s cap v q (verticalLaw dt w s));
         };
       }
 
@@ -331,40 +332,71 @@ agrees-configured : (g h : PlaneGuidance) (c : PlaneGuidanceConfig) → inForceO
 agrees-configured g h c e true = e
 agrees-configured g h c e false = refl
 
+-- a taking back, by whether a configuration is kept
+abbrev takenIf : Bool → PlaneGuidance → PlaneGuidance → TakenBack
+takenIf b h g = cond b (record { refusal = 0; guidance = h }) (record { refusal = 14; guidance = g })
+
+agrees-taken : (g h : PlaneGuidance) → inForceOf h ≡ inForceAfter (inForceOf g) takeBack false → (b : Bool) →
+    inForceOf (takenIf b h g .guidance) ≡ inForceAfter (inForceOf g) takeBack (not (eqb (takenIf b h g .refusal) 0))
+agrees-taken g h e true = e
+agrees-taken g h e false = refl
+
 pub stands : (g : PlaneGuidance) → Valid (g .config) → (k : Call) → Stands g k (perform g k .reply) (perform g k .next)
-unfolding perform guided primed cleared reset configured withConfig
+unfolding perform guided primed cleared reset configured withConfig takenBack restored
 stands g v (guide dt regime input s cap) =
     either g dt regime s cap input (badTimeStep dt) (λ e. stands-refusal g dt regime s cap input 2 refl) (λ e. stands-obeyed g dt regime s cap v input) .is
 stands g v prime = record { obeys = tt; agrees = refl }
 stands g v (setConfig c) = record { obeys = tt; agrees = agrees-configured g _ c refl (eqb (validate c) 0) }
+stands g v takeBack = record { obeys = tt; agrees = agrees-taken g (restored g) refl (flag (g .former .kept)) }
 
--- the configuration in force stays valid
-in-force-valid : (g : PlaneGuidance) → validate (g .config) ≡ 0 → (k : Call) →
-    validate (inForceAfter (inForceOf g) k (refused (perform g k .reply)) .config) ≡ 0
-unfolding perform configured
+-- ---- the configuration in force and the kept one stay valid
+pub record BothValid (config former : PlaneGuidanceConfig) : Type 0 where
+  pub in-force : validate config ≡ 0
+  pub kept : validate former ≡ 0
+
+default-valid : validate default ≡ 0
+unfolding validate firstFailing default tecsDefault finite Ieee.ofBits Ieee.lt Ieee.le Ieee.neg
+default-valid = refl
+
+pub fresh-valid : (c : PlaneGuidanceConfig) → validate c ≡ 0 → BothValid (fresh c .config) (fresh c .former .config)
+unfolding fresh noFormer
+fresh-valid c e = record { in-force = e; kept = default-valid }
+
+in-force-valid : (g : PlaneGuidance) → BothValid (g .config) (g .former .config) → (k : Call) →
+    let i = inForceAfter (inForceOf g) k (refused (perform g k .reply)) in BothValid (i .config) (i .former .config)
+unfolding perform configured takenBack noFormer
 in-force-valid g e (guide dt regime input s cap) = pick (refused (answered (guided g dt regime input s cap .answer)))
   where
-    pick : (b : Bool) → validate (inForceAfter (inForceOf g) (guide dt regime input s cap) b .config) ≡ 0
+    pick : (b : Bool) → let i = inForceAfter (inForceOf g) (guide dt regime input s cap) b in BothValid (i .config) (i .former .config)
     pick true = e
     pick false = e
 in-force-valid g e prime = e
 in-force-valid g e (setConfig c) = pick (eqb (validate c) 0) refl
   where
-    pick : (b : Bool) → eqb (validate c) 0 ≡ b → validate (inForceAfter (inForceOf g) (setConfig c) (not b) .config) ≡ 0
-    pick true h = eqb-true (validate c) 0 h
+    pick : (b : Bool) → eqb (validate c) 0 ≡ b → let i = inForceAfter (inForceOf g) (setConfig c) (not b) in BothValid (i .config) (i .former .config)
+    pick true h = record { in-force = eqb-true (validate c) 0 h; kept = e .in-force }
     pick false h = e
+in-force-valid g e takeBack = pick (flag (g .former .kept))
+  where
+    pick : (b : Bool) → let i = inForceAfter (inForceOf g) takeBack (not (eqb (takenIf b (restored g) g .refusal) 0)) in
+        BothValid (i .config) (i .former .config)
+    pick true = record { in-force = e .kept; kept = default-valid }
+    pick false = e
 
-pub still-valid : (g : PlaneGuidance) (k : Call) → validate (g .config) ≡ 0 → validate (perform g k .next .config) ≡ 0
-still-valid g k e = rw (ap (λ (i : InForce). i .config) (stands g (valid (g .config) e) k .agrees)) (in-force-valid g e k)
+pub still-valid : (g : PlaneGuidance) (k : Call) → BothValid (g .config) (g .former .config) →
+    BothValid (perform g k .next .config) (perform g k .next .former .config)
+still-valid g k e =
+    subst (λ (i : InForce). BothValid (i .config) (i .former .config)) (sym (stands g (valid (g .config) (e .in-force)) k .agrees)) (in-force-valid g e k)
 
 -- ---- the list
-all-obey : (g : PlaneGuidance) (i : InForce) → validate (g .config) ≡ 0 → i ≡ inForceOf g → (ks : List Call) → AllObey i ks (replies g ks)
+all-obey : (g : PlaneGuidance) (i : InForce) → BothValid (g .config) (g .former .config) → i ≡ inForceOf g → (ks : List Call) →
+    AllObey i ks (replies g ks)
 unfolding replies
 all-obey g i e p [] = tt
 all-obey g i e p (k ∷ ks) =
-    let t = stands g (valid (g .config) e) k in
+    let t = stands g (valid (g .config) (e .in-force)) k in
     rw p (t .obeys, all-obey (perform g k .next) _ (still-valid g k e) (sym (t .agrees)) ks)
 
 pub limited : (c : PlaneGuidanceConfig) → validate c ≡ 0 → (ks : List Call) → AllObey (atStart c) ks (replies (fresh c) ks)
 unfolding fresh reset
-limited c e ks = all-obey (fresh c) _ e refl ks
+limited c e ks = all-obey (fresh c) _ (fresh-valid c e) refl ks

@@ -6,7 +6,7 @@ use Rattle.laws.specs.declared.config.PlaneGuidanceConfig.{PlaneGuidanceConfig}
 use Rattle.guidance.specs.Plane.{fresh}
 use Rattle.claims.specs.Calls.{Call, perform, after}
 use Rattle.guidance.specs.declared.plane.PlaneGuidance.{PlaneGuidance}
-use Rattle.claims.proofs.Limited.{still-valid}
+use Rattle.claims.proofs.Limited.{BothValid, fresh-valid, still-valid}
 
 pub along : (P : PlaneGuidance → Type 0) → ((g : PlaneGuidance) (k : Call) → P g → P (perform g k .next)) → (g : PlaneGuidance) → P g →
     (ks : List Call) → P (after g ks)
@@ -14,7 +14,11 @@ unfolding after
 along P keeps g p [] = p
 along P keeps g p (k ∷ ks) = along P keeps (perform g k .next) (keeps g k p) ks
 
--- the configuration of every guidance that calls make is valid
+-- both configurations of every guidance that calls make are valid
+pub both-valid-along : (c : PlaneGuidanceConfig) → validate c ≡ 0 → (ks : List Call) →
+    let g = after (fresh c) ks in BothValid (g .config) (g .former .config)
+both-valid-along c e ks =
+    along (λ (g : PlaneGuidance). BothValid (g .config) (g .former .config)) still-valid (fresh c) (fresh-valid c e) ks
+
 pub valid-along : (c : PlaneGuidanceConfig) → validate c ≡ 0 → (ks : List Call) → validate (after (fresh c) ks .config) ≡ 0
-unfolding fresh
-valid-along c e ks = along (λ (g : PlaneGuidance). validate (g .config) ≡ 0) still-valid (fresh c) e ks
+valid-along c e ks = both-valid-along c e ks .in-force

@@ -7,7 +7,7 @@ use lib.Dec.{eqb}
 use lib.Ieee.{Float}
 use Rattle.arithmetic.proofs.Bounds.{never, never′, and-left, and-right}
 use Rattle.laws.specs.Config.{validate}
-use Rattle.laws.specs.Tecs.{hold}
+use Rattle.laws.specs.Tecs.{flag, hold}
 use Rattle.laws.specs.declared.config.PlaneGuidanceConfig.{PlaneGuidanceConfig}
 use Rattle.laws.specs.declared.types.OptionF32.{OptionF32}
 use Rattle.laws.specs.declared.types.WaypointCommand.{WaypointCommand}
@@ -16,13 +16,14 @@ use Rattle.laws.specs.declared.types.ControlInput.the-variants as Input
 use Rattle.laws.specs.declared.types.FlightRegime.{FlightRegime}
 use Rattle.laws.specs.declared.types.VehicleState.{VehicleState}
 use Rattle.laws.specs.declared.types.Setpoint.{Setpoint}
-use Rattle.guidance.specs.Plane.{isWaypoint, noIntegral, fresh, cleared, primed, withConfig, configured, badTimeStep, badCap, refusal, allFinite, vertical, verticalLaw, steered, settled, commanded, waypoint, obeyed, guided}
-use Rattle.claims.specs.Calls.{Call, guide, prime, setConfig, Reply, answered, perform, refused, replies, after, refusals, lawIs, isHold, isFallback, holds, fellBack, struck, strikes, unmarked, startsFresh, settingsOf, freshWith}
+use Rattle.guidance.specs.Plane.{isWaypoint, noIntegral, fresh, cleared, primed, withConfig, configured, restored, takenBack, badTimeStep, badCap, refusal, allFinite, vertical, verticalLaw, steered, settled, commanded, waypoint, obeyed, guided}
+use Rattle.claims.specs.Calls.{Call, guide, prime, setConfig, takeBack, Reply, answered, perform, refused, replies, after, refusals, lawIs, isHold, isFallback, holds, fellBack, struck, strikes, unmarked, startsFresh, settingsOf, freshWith}
 use Rattle.guidance.specs.declared.plane.PlaneGuidance.{PlaneGuidance}
 use Rattle.guidance.specs.declared.plane.VerticalLaw.{VerticalLaw}
 use Rattle.guidance.specs.declared.plane.VerticalLaw.the-variants.{Energy, Hold, Fallback}
 use Rattle.guidance.specs.declared.plane.Steered.{Steered}
 use Rattle.guidance.specs.declared.plane.Guided.{Guided}
+use Rattle.guidance.specs.declared.plane.TakenBack.{TakenBack}
 use Rattle.claims.proofs.Alike.{Alike, alike-refl, alike-sym, alike-trans, AlikeOutcome, perform-alike, replies-alike}
 
 -- ---- what one call leaves behind, by whether it was refused
@@ -67,7 +68,7 @@ module _ (g : PlaneGuidance) (dt : Float) (regime : FlightRegime) (s : VehicleSt
       unchanged = λ e. never e;
       held = λ e l a. never (sym h ∙ l);
       idle = λ before inv e. refl;
-      started = λ e. record { config = refl; altitude = refl; tecs = refl };
+      started = λ e. record { config = refl; altitude = refl; tecs = refl; former = refl };
     };
   }
 
@@ -90,7 +91,7 @@ module _ (g : PlaneGuidance) (dt : Float) (regime : FlightRegime) (s : VehicleSt
       (record {
         is = record {
           unchanged = λ e. never e;
-          held = λ e h a. record { config = refl; altitude = a; tecs = refl };
+          held = λ e h a. record { config = refl; altitude = a; tecs = refl; former = refl };
           idle = λ before inv e. refl;
           started = λ e. never e;
         };
@@ -134,16 +135,29 @@ left-configured g c h a true = record {
 }
 left-configured g c h a false = unchanged-by g (setConfig c)
 
+-- a taking back, by whether one is kept
+left-taken : (g : PlaneGuidance) (h : PlaneGuidance) → g .altitude ≡ h .altitude → (kept : Bool) →
+    let o : TakenBack = cond kept (record { refusal = 0; guidance = h }) (record { refusal = 14; guidance = g }) in
+    Left g takeBack (o .guidance) (not (eqb (o .refusal) 0))
+left-taken g h a true = record {
+  unchanged = λ e. never e;
+  held = λ e l i. never l;
+  idle = λ before inv e. sym a ∙ inv e;
+  started = λ e. never e;
+}
+left-taken g h a false = unchanged-by g takeBack
+
 left : (g : PlaneGuidance) (k : Call) → Left g k (perform g k .next) (refused (perform g k .reply))
-unfolding perform guided primed cleared configured withConfig fresh
+unfolding perform guided primed cleared configured withConfig takenBack restored fresh
 left g (guide dt regime input s cap) = either (badTimeStep dt) (left-refusal g _ 2 refl) (left-obeyed g dt regime s cap input) .is
 left g prime = record {
   unchanged = λ e. never e;
   held = λ e l i. never l;
   idle = λ before inv e. refl;
-  started = λ e. record { config = refl; altitude = refl; tecs = refl };
+  started = λ e. record { config = refl; altitude = refl; tecs = refl; former = refl };
 }
 left g (setConfig c) = left-configured g c _ refl (eqb (validate c) 0)
+left g takeBack = left-taken g (restored g) refl (flag (g .former .kept))
 
 -- ---- struck calls
 
@@ -191,11 +205,12 @@ strike g h before p inv (k ∷ ks) =
 
 -- ---- fresh start
 
+-- a call that starts fresh keeps both configurations
 pub start : (g : PlaneGuidance) (k : Call) (ks : List Call) → startsFresh k (refused (perform g k .reply)) ≡ true →
     replies (perform g k .next) ks ≡ replies (freshWith (settingsOf (perform g k .next))) ks
 unfolding fresh
 start g k ks e =
     let p = left g k .started e in
     let next = perform g k .next in
-    let same : Alike (freshWith (settingsOf next)) next = record { config = refl; altitude = p .altitude; tecs = p .tecs } in
+    let same : Alike (freshWith (settingsOf next)) next = record { config = refl; altitude = p .altitude; tecs = p .tecs; former = refl } in
     sym (replies-alike (freshWith (settingsOf next)) next same ks)

@@ -2,7 +2,7 @@
 use Prim.Native.Nat.{ℕ}
 use mathlib.Core.Path.{_≡_, refl}
 use mathlib.Core.Bool.{Bool, true, false, cond, not, _&&_, _||_}
-use mathlib.Core.List.{List, [], _∷_}
+use mathlib.Core.List.{List, [], _∷_, _++_}
 use lib.Dec.{eqb}
 use lib.Ieee as Ieee
 use lib.Ieee.{Float, neg, binary32, toBits, ofBits, le, isNan}
@@ -26,7 +26,7 @@ use Rattle.laws.specs.declared.types.FlightRegime.the-variants as Regime
 use Rattle.laws.specs.declared.types.VehicleState.{VehicleState}
 use Rattle.guidance.specs.Plane as Plane
 use Rattle.guidance.specs.Plane.{fresh, answerValues}
-use Rattle.claims.specs.Calls.{Call, guide, prime, setConfig, Reply, answered, done, field, perform, refused, replies, refusals, lawIs, isFallback, fellBack, struck, holds, unmarked, startsFresh, settingsOf, freshWith}
+use Rattle.claims.specs.Calls.{Call, guide, prime, setConfig, takeBack, Reply, answered, done, field, back, perform, refused, replies, after, refusals, lawIs, isFallback, fellBack, struck, holds, unmarked, startsFresh, settingsOf, freshWith}
 use Rattle.claims.specs.Limits.{InForce, atStart, underspeedAt, inForceAfter}
 use Rattle.guidance.specs.declared.plane.PlaneGuidance.{PlaneGuidance}
 use Rattle.guidance.specs.declared.plane.Answer.the-variants.{Refused, Commanded, Waypoint}
@@ -40,6 +40,7 @@ bitsOf : Reply → List ℕ
 bitsOf (answered a) = bits (answerValues a)
 bitsOf done = []
 bitsOf (field n) = n ∷ []
+bitsOf (back n) = n ∷ []
 
 same : List ℕ → List ℕ → Bool
 same [] [] = true
@@ -126,6 +127,11 @@ invalid = configWith n0 n1 n1 (tecsWith n1 (tecsDefault .«min_airspeed_mps») n
 unfoldable pub nimble : PlaneGuidanceConfig
 nimble = configWith n0 (default .«min_thrust») (default .«max_thrust») (tecsWith n1 n1 (tecsDefault .«underspeed_share»))
 
+-- a speed weight of 0
+weightless : PlaneGuidanceConfig
+weightless =
+    configWith n0 (default .«min_thrust») (default .«max_thrust») (tecsWith n0 (tecsDefault .«min_airspeed_mps») (tecsDefault .«underspeed_share»))
+
 -- ---- calls: at rest at the origin, time step 1
 
 abbrev pub at-rest : OptionF32 → VehicleState
@@ -195,6 +201,7 @@ forgets : Bool → Call → Bool → Bool
 forgets before (guide dt regime input s cap) r = fellBack before (guide dt regime input s cap) r
 forgets before prime r = fellBack before prime r
 forgets before (setConfig c) r = false
+forgets before takeBack r = fellBack before takeBack r
 
 isAttitude : Call → Bool
 isAttitude (guide dt regime (Input.Attitude k) s cap) = true
@@ -205,6 +212,7 @@ isAttitude (guide dt regime Input.Land s cap) = false
 isAttitude (guide dt regime (Input.AbsoluteRate k) s cap) = false
 isAttitude prime = false
 isAttitude (setConfig c) = false
+isAttitude takeBack = false
 
 attitudesToo : Bool → Call → Bool → Bool
 attitudesToo before k r = struck before k r || isAttitude k
@@ -229,6 +237,7 @@ pitchOf : Reply → Float
 pitchOf (answered a) = second (answerValues a)
 pitchOf done = n0
 pitchOf (field n) = n0
+pitchOf (back n) = n0
 
 -- 100 metres down
 withinPlainLimit : Bool
@@ -260,6 +269,14 @@ startsConfigured : Call → Bool → Bool
 startsConfigured (guide dt regime input s cap) r = startsFresh (guide dt regime input s cap) r
 startsConfigured prime r = startsFresh prime r
 startsConfigured (setConfig c) r = not r
+startsConfigured takeBack r = startsFresh takeBack r
+
+-- with nothing kept
+withoutFormer : PlaneGuidance → PlaneGuidance
+withoutFormer g = fresh (g .config)
+
+primed-between : List Call
+primed-between = setConfig trimmed ∷ prime ∷ takeBack ∷ fall ∷ []
 
 -- the configuration that the list began with
 ofTheStart : PlaneGuidance → PlaneGuidance
@@ -291,6 +308,7 @@ replyObeys i (answered (Commanded s)) = true
 replyObeys i (answered (Waypoint a)) = thrustObeys i (third (answerValues (Waypoint a)))
 replyObeys i done = true
 replyObeys i (field n) = true
+replyObeys i (back n) = true
 
 obeysBy : (InForce → Call → Bool → InForce) → InForce → List Call → List Reply → Bool
 obeysBy next i [] rs = true
@@ -310,20 +328,32 @@ evenRefused i k refused = inForceAfter i k false
 -- the configuration that the list began with
 fromTheStart : InForce → Call → Bool → InForce
 fromTheStart i k refused =
-    let j : InForce = record { config = default; underspeed = i .underspeed } in
-    record { config = default; underspeed = inForceAfter j k refused .underspeed }
+    let j : InForce = record { config = default; former = i .former; underspeed = i .underspeed } in
+    record { config = default; former = i .former; underspeed = inForceAfter j k refused .underspeed }
 
 -- a prime keeps underspeed
 primeKeeps : InForce → Call → Bool → InForce
 primeKeeps i (guide dt regime input s cap) r = inForceAfter i (guide dt regime input s cap) r
 primeKeeps i prime r = i
 primeKeeps i (setConfig c) r = inForceAfter i (setConfig c) r
+primeKeeps i takeBack r = inForceAfter i takeBack r
 
 -- a fallback keeps underspeed
 fallbackKeeps : InForce → Call → Bool → InForce
 fallbackKeeps i (guide dt regime input s cap) r = cond (lawIs isFallback dt input s) i (inForceAfter i (guide dt regime input s cap) r)
 fallbackKeeps i prime r = inForceAfter i prime r
 fallbackKeeps i (setConfig c) r = inForceAfter i (setConfig c) r
+fallbackKeeps i takeBack r = inForceAfter i takeBack r
+
+-- a taking back keeps the configuration in force
+backKeeps : InForce → Call → Bool → InForce
+backKeeps i (guide dt regime input s cap) r = inForceAfter i (guide dt regime input s cap) r
+backKeeps i prime r = inForceAfter i prime r
+backKeeps i (setConfig c) r = inForceAfter i (setConfig c) r
+backKeeps i takeBack r = i
+
+weak-taken-back : List Call
+weak-taken-back = setConfig weak ∷ takeBack ∷ fall ∷ []
 
 refused-setting : List Call
 refused-setting = setConfig invalid ∷ fall ∷ []
@@ -342,6 +372,46 @@ slow-primed = slow ∷ middle ∷ prime ∷ middle ∷ []
 
 slow-fallen : List Call
 slow-fallen = slow ∷ middle ∷ fall ∷ middle ∷ []
+
+-- ---- a change and its taking back: `rest` gets the same replies with both calls and with neither
+undoneBy : List Call → PlaneGuidanceConfig → List Call → List Call → Bool
+undoneBy before d between rest =
+    sameReplies (replies (after (fresh default) (before ++ (setConfig d ∷ (between ++ (takeBack ∷ []))))) rest)
+    (replies (after (fresh default) (before ++ between)) rest)
+
+-- cruise speed 20 at this airspeed
+abbrev cruising : Float → Call
+cruising airspeed = to n0 (f32 0x41a00000) (Some airspeed)
+
+-- at 1e30 m/s: refused with 4 at a speed weight of 0
+abbrev rushing : Call
+rushing = cruising (f32 0x7149f2ca)
+
+-- at 15 m/s
+abbrev level : Call
+level = cruising (f32 0x41700000)
+
+pitchBits : List Call → Call → ℕ
+pitchBits ks k = toBits binary32 (pitchOf (perform (after (fresh default) ks) k .reply))
+
+takingBack : List Bool
+takingBack =
+    -- primes and refused changes between
+    undoneBy [] nimble (prime ∷ setConfig invalid ∷ []) (slow ∷ middle ∷ []) ∷
+    -- an accepted guide call between
+    undoneBy [] nimble (slow ∷ []) (middle ∷ []) ∷
+    -- a refused one between, which the former setting accepts
+    undoneBy [] weightless (rushing ∷ []) (level ∷ []) ∷
+    -- up to the next taking back, and past it
+    undoneBy (setConfig trimmed ∷ []) weak [] (fall ∷ []) ∷
+    undoneBy (setConfig trimmed ∷ []) weak [] (takeBack ∷ []) ∷
+    sameReplies (replies (after (fresh default) (setConfig trimmed ∷ setConfig weak ∷ takeBack ∷ takeBack ∷ [])) (fall ∷ []))
+    (replies (after (fresh default) (setConfig trimmed ∷ takeBack ∷ [])) (fall ∷ [])) ∷
+    []
+
+-- the pitch after the refused call between, and without the pair
+pitches : List ℕ
+pitches = pitchBits (setConfig weightless ∷ rushing ∷ takeBack ∷ []) level ∷ pitchBits (rushing ∷ []) level ∷ []
 
 striking : List Bool
 striking =
@@ -364,6 +434,8 @@ freshStarts =
     besideFresh startsConfigured ofThatMoment (fresh default) configured-after ∷
     besideFresh startsFresh ofThatMoment (fresh default) primed-after ∷
     besideFresh startsFresh ofTheStart (fresh default) primed-after ∷
+    besideFresh startsFresh ofThatMoment (fresh default) primed-between ∷
+    besideFresh startsFresh withoutFormer (fresh default) primed-between ∷
     []
 
 inForce : List Bool
@@ -380,13 +452,18 @@ inForce =
     obeys primeKeeps slow-primed ∷
     obeys exactly slow-fallen ∷
     obeys fallbackKeeps slow-fallen ∷
+    obeys exactly weak-taken-back ∷
+    obeys backKeeps weak-taken-back ∷
     []
 
 computed :
     (striking ≡ true ∷ false ∷ true ∷ false ∷ true ∷ false ∷ true ∷ false ∷ false ∷ [])
-    × (freshStarts ≡ true ∷ false ∷ true ∷ false ∷ true ∷ false ∷ [])
-    × (inForce ≡ true ∷ false ∷ true ∷ false ∷ true ∷ false ∷ true ∷ false ∷ true ∷ false ∷ true ∷ false ∷ [])
-unfolding striking freshStarts inForce leavesNoTrace strikesBy sameReplies same bitsOf bits always forgets forgetsAccepted isAttitude
+    × (freshStarts ≡ true ∷ false ∷ true ∷ false ∷ true ∷ false ∷ true ∷ false ∷ [])
+    × (inForce ≡ true ∷ false ∷ true ∷ false ∷ true ∷ false ∷ true ∷ false ∷ true ∷ false ∷ true ∷ false ∷ true ∷ false ∷ [])
+    × (takingBack ≡ true ∷ false ∷ false ∷ true ∷ false ∷ false ∷ [])
+    × (pitches ≡ 0xbd57f532 ∷ 0xbedf66f3 ∷ [])
+unfolding striking freshStarts inForce takingBack pitches undoneBy pitchBits withoutFormer primed-between backKeeps weak-taken-back weightless after
+    Plane.noFormer Plane.restored Plane.takenBack leavesNoTrace strikesBy sameReplies same bitsOf bits always forgets forgetsAccepted isAttitude
     attitudesToo after-fallback between attitude-between unheard-between unheard-after configured-after primed-after refused-setting weaker
     refused-slow nimble-slow slow-primed slow-fallen besideFresh ofThatMoment ofTheStart startsRefused startsConfigured thrustObeys third
     replyObeys obeysBy obeys exactly evenRefused fromTheStart primeKeeps fallbackKeeps tecsWith configWith trimmed weak invalid nimble second
@@ -399,4 +476,4 @@ unfolding striking freshStarts inForce leavesNoTrace strikesBy sameReplies same 
     Plane.inputs Plane.verticalLaw Plane.topThrust Plane.limitsOf Plane.rollOf Plane.crossTrackOf Plane.heightError Plane.fallback Plane.vertical Plane.allFinite
     Plane.commanded Plane.waypoint Plane.obeyed Plane.guided toBits ofBits le isNan Ieee.add Ieee.sub Ieee.mul Ieee.div Ieee.rem Ieee.lt
     Ieee.eq Ieee.ne Ieee.neg Ieee.round
-computed = (refl, refl, refl)
+computed = (refl, refl, refl, refl, refl)

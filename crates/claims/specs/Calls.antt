@@ -10,27 +10,31 @@ use Rattle.laws.specs.declared.types.ControlInput.{ControlInput}
 use Rattle.laws.specs.declared.types.ControlInput.the-variants as Input
 use Rattle.laws.specs.declared.types.FlightRegime.{FlightRegime}
 use Rattle.laws.specs.declared.types.VehicleState.{VehicleState}
-use Rattle.guidance.specs.Plane.{fresh, guided, primed, configured, verticalLaw, isWaypoint, refusalNumber}
+use Rattle.guidance.specs.Plane.{fresh, guided, primed, configured, takenBack, verticalLaw, isWaypoint, refusalNumber}
+use Rattle.guidance.specs.declared.plane.Former.{Former}
 use Rattle.guidance.specs.declared.plane.PlaneGuidance.{PlaneGuidance}
 use Rattle.guidance.specs.declared.plane.VerticalLaw.{VerticalLaw}
 use Rattle.guidance.specs.declared.plane.VerticalLaw.the-variants.{Energy, Hold, Fallback}
 use Rattle.guidance.specs.declared.plane.Answer.{Answer}
 use Rattle.guidance.specs.declared.plane.Guided.{Guided}
 use Rattle.guidance.specs.declared.plane.Configured.{Configured}
+use Rattle.guidance.specs.declared.plane.TakenBack.{TakenBack}
 
 -- ---- one call
 
--- a guide call (time step, regime, command, sensors, cap), a prime, or a set-configuration
+-- a guide call (time step, regime, command, sensors, cap), a prime, a set-configuration, or (document 02, K11) a taking back
 pub data Call : Type 0 where
   guide : Float → FlightRegime → ControlInput → VehicleState → OptionF32 → Call
   prime : Call
   setConfig : PlaneGuidanceConfig → Call
+  takeBack : Call
 
--- what the caller gets: a guide call's answer; nothing; 0 or the failing field
+-- what the caller gets: a guide call's answer; nothing; 0 or the failing field; 0 or 14 of a taking back
 pub data Reply : Type 0 where
   answered : Answer → Reply
   done : Reply
   field : ℕ → Reply
+  back : ℕ → Reply
 
 pub record Outcome : Type 0 where
   pub reply : Reply
@@ -42,17 +46,22 @@ answeredBy o = record { reply = answered (o .answer); next = o .guidance }
 abbrev pub configuredBy : Configured → Outcome
 configuredBy o = record { reply = field (o .field); next = o .guidance }
 
--- what the contracts of guide_capped, prime and set_config say
+abbrev pub takenBackBy : TakenBack → Outcome
+takenBackBy o = record { reply = back (o .refusal); next = o .guidance }
+
+-- what the contracts of guide_capped, prime, set_config and take_back say
 unfoldable pub perform : PlaneGuidance → Call → Outcome
 perform g (guide dt regime input s cap) = answeredBy (guided g dt regime input s cap)
 perform g prime = record { reply = done; next = primed g }
 perform g (setConfig c) = configuredBy (configured g c)
+perform g takeBack = takenBackBy (takenBack g)
 
--- a refusal: 2, 3 or 4 of a guide call, 1 of a set-configuration
+-- a refusal: 2, 3 or 4 of a guide call, 1 of a set-configuration, 14 of a taking back
 abbrev pub refused : Reply → Bool
 refused (answered a) = not (eqb (refusalNumber a) 0)
 refused done = false
 refused (field n) = not (eqb n 0)
+refused (back n) = not (eqb n 0)
 
 -- ---- a run: each call gets the guidance that the one before it left
 
@@ -100,6 +109,7 @@ abbrev pub holds : Call → Bool
 holds (guide dt regime input s cap) = lawIs isHold dt input s
 holds prime = false
 holds (setConfig c) = false
+holds takeBack = false
 
 -- ---- striking: one step from left to right, with one Bool
 
@@ -109,6 +119,7 @@ fellBack before k true = before
 fellBack before (guide dt regime input s cap) false = lawIs isFallback dt input s
 fellBack before prime false = false
 fellBack before (setConfig c) false = before
+fellBack before takeBack false = before
 
 -- Struck: every refused call, and every hold unless the last accepted guide or prime call before it was a fallback.
 abbrev pub struck : Bool → Call → Bool → Bool
@@ -138,13 +149,18 @@ startsFresh k true = false
 startsFresh (guide dt regime input s cap) false = not (isWaypoint input)
 startsFresh prime false = true
 startsFresh (setConfig c) false = false
+startsFresh takeBack false = false
 
--- what a fresh start takes from the guidance: the configuration of that moment
+-- what a fresh start takes from the guidance: the configuration and the kept configuration of that moment
 pub record Settings : Type 0 where
   pub config : PlaneGuidanceConfig
+  pub former : Former
 
 abbrev pub settingsOf : PlaneGuidance → Settings
-settingsOf g = record { config = g .config }
+settingsOf g = record { config = g .config; former = g .former }
 
+-- a fresh guidance with this configuration, and with this one kept
 abbrev pub freshWith : Settings → PlaneGuidance
-freshWith t = fresh (t .config)
+freshWith t =
+    let g = fresh (t .config) in
+    record { config = g .config; requested = g .requested; altitude = g .altitude; tecs = g .tecs; former = t .former }

@@ -9,10 +9,11 @@ use Rattle.guidance.specs.declared.plane.PlaneGuidance.{PlaneGuidance}
 use Rattle.claims.specs.Calls.{Call, perform, refused, replies, after, marks, unmarked, startsFresh, settingsOf, freshWith}
 use Rattle.claims.specs.Limits.{atStart, AllObey}
 
--- Directly after a fresh start: the configuration of that moment passes `validate`, so that `new` makes a guidance of it;
--- all calls that follow get the replies that this fresh guidance gives.
+-- Directly after a fresh start: the configuration of that moment passes `validate`, so that `new` makes a guidance of it, and so does
+-- the kept one; all calls that follow get the replies that this fresh guidance, with that one kept, gives.
 pub record BesideFresh (g : PlaneGuidance) (rest : List Call) : Type 0 where
   pub valid : validate (settingsOf g .config) ≡ 0
+  pub kept-valid : validate (settingsOf g .former .config) ≡ 0
   pub same : replies g rest ≡ replies (freshWith (settingsOf g)) rest
 
 -- Of the list `calls`, run from a fresh guidance with the configuration c.

@@ -1,6 +1,7 @@
--- Document 01, "Guidance": lists of calls on a guidance, and demand 3 about them; document 02's K8: their settings.
+-- Document 01, "Guidance": lists of calls on a guidance, and demand 3 about them; document 02's K8 and K11: their settings.
 pub mod Calls
 pub mod Limits
 pub mod Clamps
 pub mod Demand3
 pub mod Validity
+pub mod Undone

@@ -18,8 +18,9 @@ use Rattle.laws.specs.declared.types.WaypointCommand.{WaypointCommand}
 use Rattle.laws.specs.declared.types.VehicleState.{VehicleState}
 use Rattle.laws.specs.declared.types.Setpoint.{Setpoint}
 use Rattle.laws.specs.declared.types.Setpoint.the-variants as Set
-use Rattle.guidance.specs.Plane.{capped, topThrust, heightError, lateralLaw, verticalLaw, orZero}
-use Rattle.claims.specs.Calls.{Call, guide, prime, setConfig, Reply, answered, done, field, refused, perform}
+use Rattle.guidance.specs.Plane.{noFormer, capped, topThrust, heightError, lateralLaw, verticalLaw, orZero}
+use Rattle.claims.specs.Calls.{Call, guide, prime, setConfig, takeBack, Reply, answered, done, field, back, refused, perform}
+use Rattle.guidance.specs.declared.plane.Former.{Former}
 use Rattle.guidance.specs.declared.plane.PlaneGuidance.{PlaneGuidance}
 use Rattle.guidance.specs.declared.plane.VerticalLaw.{VerticalLaw}
 use Rattle.guidance.specs.declared.plane.VerticalLaw.the-variants.{Energy, Hold, Fallback}
@@ -28,14 +29,15 @@ use Rattle.guidance.specs.declared.plane.Answer.the-variants.{Refused, Commande
 
 -- ---- the configuration in force, and underspeed
 
--- the configuration in force, and whether underspeed stands
+-- the configuration in force, the one before the last accepted change where it can be taken back, and whether underspeed stands
 pub record InForce : Type 0 where
   pub config : PlaneGuidanceConfig
+  pub former : Former
   pub underspeed : Bool
 
 -- of a fresh guidance
 abbrev pub atStart : PlaneGuidanceConfig → InForce
-atStart c = record { config = c; underspeed = false }
+atStart c = record { config = c; former = noFormer; underspeed = false }
 
 -- An energy step whose airspeed is below share · least airspeed sets underspeed, one at or above least airspeed clears it,
 -- any other keeps it.
@@ -62,9 +64,10 @@ underspeedAfter i dt (Input.AbsoluteRate k) s = false
 -- after a call, by whether it was refused; an accepted prime clears underspeed, all other calls keep it
 abbrev pub inForceAfter : InForce → Call → Bool → InForce
 inForceAfter i k true = i
-inForceAfter i (guide dt regime input s cap) false = record { config = i .config; underspeed = underspeedAfter i dt input s }
-inForceAfter i prime false = record { config = i .config; underspeed = false }
-inForceAfter i (setConfig c) false = record { config = c; underspeed = i .underspeed }
+inForceAfter i (guide dt regime input s cap) false = record { config = i .config; former = i .former; underspeed = underspeedAfter i dt input s }
+inForceAfter i prime false = record { config = i .config; former = i .former; underspeed = false }
+inForceAfter i (setConfig c) false = record { config = c; former = record { kept = 1; config = i .config }; underspeed = i .underspeed }
+inForceAfter i takeBack false = record { config = i .former .config; former = noFormer; underspeed = i .underspeed }
 
 -- ---- limits
 
@@ -128,6 +131,7 @@ WaypointObeys i dt w s cap (answered (Commanded t)) = ⊥
 WaypointObeys i dt w s cap (answered (Waypoint a)) = SetpointLimits i dt w s cap (a .laws) (a .setpoint)
 WaypointObeys i dt w s cap done = ⊥
 WaypointObeys i dt w s cap (field n) = ⊥
+WaypointObeys i dt w s cap (back n) = ⊥
 
 abbrev pub Obeys : InForce → Call → Reply → Type 0
 Obeys i (guide dt regime (Input.Attitude k) s cap) r = Unit {0}
@@ -138,6 +142,7 @@ Obeys i (guide dt regime Input.Land s cap) r = Unit {0}
 Obeys i (guide dt regime (Input.AbsoluteRate k) s cap) r = Unit {0}
 Obeys i prime r = Unit {0}
 Obeys i (setConfig c) r = Unit {0}
+Obeys i takeBack r = Unit {0}
 
 -- every call of the list obeys
 abbrev pub AllObey : InForce → List Call → List Reply → Type 0

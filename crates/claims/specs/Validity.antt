@@ -13,6 +13,8 @@ pub record ValidConfig (c : PlaneGuidanceConfig) : Type 0 where
   pub passes : validate c ≡ 0
   pub ordered : OrderedPairs c
 
--- Of the list `calls`, run from a fresh guidance with the configuration c: at every place in it the configuration in force is valid.
+-- Of the list `calls`, run from a fresh guidance with the configuration c: at every place in it the configuration in force is valid,
+-- and so is the kept one (K11), whose numbers are the default configuration's where there is none to take back.
 pub record AlwaysValid (c : PlaneGuidanceConfig) (calls : List Call) : Type 0 where
   pub in-force : (before rest : List Call) → calls ≡ before ++ rest → ValidConfig (after (fresh c) before .config)
+  pub kept : (before rest : List Call) → calls ≡ before ++ rest → ValidConfig (after (fresh c) before .former .config)

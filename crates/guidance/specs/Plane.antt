@@ -8,7 +8,7 @@ use lib.Ieee.{Float, neg}
 use Rattle.arithmetic.specs.Constants.{_+ᶠ_, _-ᶠ_, _·ᶠ_, n0}
 use Rattle.arithmetic.specs.Order.{least, greatest, clamp, finite, choose}
 use Rattle.arithmetic.specs.declared.vector.Vec2.{Vec2}
-use Rattle.laws.specs.Config.{checkPositive, validate}
+use Rattle.laws.specs.Config.{checkPositive, validate, default}
 use Rattle.laws.specs.Math.{clampSymmetric, saturateUnit, saturateThrottle}
 use Rattle.laws.specs.Types.{validAirspeed}
 use Rattle.laws.specs.Navigation.{finiteLeg, lateralAccel, idle, crossTrack, bankForAccel, piStep}
@@ -36,6 +36,7 @@ use Rattle.laws.specs.declared.types.FlightRegime.the-variants as Regime
 use Rattle.laws.specs.declared.types.VehicleState.{VehicleState}
 use Rattle.laws.specs.declared.types.Setpoint.{Setpoint}
 use Rattle.laws.specs.declared.types.Setpoint.the-variants as Set
+use Rattle.guidance.specs.declared.plane.Former.{Former}
 use Rattle.guidance.specs.declared.plane.PlaneGuidance.{PlaneGuidance}
 use Rattle.guidance.specs.declared.plane.Created.{Created}
 use Rattle.guidance.specs.declared.plane.Created.the-variants as New
@@ -50,6 +51,7 @@ use Rattle.guidance.specs.declared.plane.Answer.{Answer}
 use Rattle.guidance.specs.declared.plane.Answer.the-variants.{Refused, Commanded, Waypoint}
 use Rattle.guidance.specs.declared.plane.Guided.{Guided}
 use Rattle.guidance.specs.declared.plane.Configured.{Configured}
+use Rattle.guidance.specs.declared.plane.TakenBack.{TakenBack}
 use Rattle.guidance.specs.declared.plane.Vertical.{Vertical}
 use Rattle.guidance.specs.declared.plane.FlightMode.the-variants as Mode
 use Rattle.guidance.specs.declared.plane.ModeRefusal.the-variants as Why
@@ -66,9 +68,13 @@ regimeNumber Regime.Plane = 1
 abbrev pub noIntegral : PiLoop
 noIntegral = record { integral = n0 }
 
+-- Document 02, K11: no change is left to take back; the numbers are the default configuration's.
+unfoldable pub noFormer : Former
+noFormer = record { kept = 0; config = default }
+
 -- what `new` makes of a valid configuration
 unfoldable pub fresh : PlaneGuidanceConfig → PlaneGuidance
-fresh c = record { config = c; requested = 1; altitude = noIntegral; tecs = reset }
+fresh c = record { config = c; requested = 1; altitude = noIntegral; tecs = reset; former = noFormer }
 
 -- new: number 1 with its field, and no guidance, or a fresh guidance
 unfoldable pub created : PlaneGuidanceConfig → Created
@@ -76,18 +82,33 @@ created c = cond (eqb (validate c) 0) (New.Made (fresh c)) (New.Refused (validat
 
 -- the energy state and the altitude loop as `new` makes them, with this requested regime
 unfoldable pub cleared : PlaneGuidance → ℕ → PlaneGuidance
-cleared g regime = record { config = g .config; requested = regime; altitude = noIntegral; tecs = reset }
+cleared g regime = record { config = g .config; requested = regime; altitude = noIntegral; tecs = reset; former = g .former }
 
 -- prime
 unfoldable pub primed : PlaneGuidance → PlaneGuidance
 primed g = cleared g (g .requested)
 
+-- An accepted change: the configuration that it replaces is kept.
 unfoldable pub withConfig : PlaneGuidance → PlaneGuidanceConfig → PlaneGuidance
-withConfig g c = record { config = c; requested = g .requested; altitude = g .altitude; tecs = g .tecs }
+withConfig g c = record {
+  config = c;
+  requested = g .requested;
+  altitude = g .altitude;
+  tecs = g .tecs;
+  former = record { kept = 1; config = g .config };
+}
 
 -- set-configuration: number 1 keeps configuration and state
 unfoldable pub configured : PlaneGuidance → PlaneGuidanceConfig → Configured
 configured g c = record { field = validate c; guidance = cond (eqb (validate c) 0) (withConfig g c) g }
+
+-- the kept configuration in force again, and forgotten
+unfoldable pub restored : PlaneGuidance → PlaneGuidance
+restored g = record { config = g .former .config; requested = g .requested; altitude = g .altitude; tecs = g .tecs; former = noFormer }
+
+-- take-back: number 14 where no change is left to take back, which keeps everything
+unfoldable pub takenBack : PlaneGuidance → TakenBack
+takenBack g = cond (flag (g .former .kept)) (record { refusal = 0; guidance = restored g }) (record { refusal = 14; guidance = g })
 
 -- flight_mode, as FlightModeReport::plane_only: always plane, and a copter request is unsupported
 unfoldable pub flightMode : PlaneGuidance → FlightModeReport
@@ -282,7 +303,7 @@ commanded g regime setpoint = record { guidance = cleared g (regimeNumber regime
 
 abbrev pub flown : PlaneGuidance → FlightRegime → Steered → VerticalLaw → Vertical → Guided
 flown g regime lateral law v = record {
-  guidance = record { config = g .config; requested = regimeNumber regime; altitude = v .altitude; tecs = v .tecs };
+  guidance = record { config = g .config; requested = regimeNumber regime; altitude = v .altitude; tecs = v .tecs; former = g .former };
   answer = Waypoint (record {
     setpoint = Set.Plane (lateral .«roll_rad») (v .«pitch_rad») (v .thrust);
     laws = record { lateral = lateral .law; vertical = law };

@@ -6,14 +6,17 @@ use crate::plane::Configured;
 use crate::plane::Created;
 use crate::plane::FlightMode;
 use crate::plane::FlightModeReport;
+use crate::plane::Former;
 use crate::plane::Guided;
 use crate::plane::ModeRefusal;
 use crate::plane::PlaneGuidance;
+use crate::plane::TakenBack;
 use crate::waypoint::refusal;
 use crate::waypoint::regime_number;
 use crate::waypoint::waypoint;
 use arithmetic::order::is_finite;
 use laws::config::PlaneGuidanceConfig;
+use laws::config::default;
 use laws::config::validate;
 use laws::navigation::PiLoop;
 use laws::tecs::reset;
@@ -27,17 +30,29 @@ ghost use Rattle.laws.specs.declared.types.OptionF32.the-variants.{None};
 ghost use Rattle.guidance.specs.Plane as spec;
 ghost use Rattle.guidance.specs.Contracts as contract;
 
+// No change to take back.
+fn no_former() -> Former
+    ensures { λ r. ⌜ r ≡ spec.noFormer ⌝ }
+{
+    Former {
+        kept: 0,
+        config: default(),
+    }
+}
+
 // The energy state and the altitude loop as `new` makes them.
 fn cleared(g: PlaneGuidance, requested: u32) -> PlaneGuidance
     ensures { λ r. ⌜ r ≡ spec.cleared g requested ⌝ }
 {
     let config = g.config;
     let altitude = PiLoop { integral: 0.0 };
+    let former = g.former;
     PlaneGuidance {
         config,
         requested,
         altitude,
         tecs: reset(),
+        former,
     }
 }
 
@@ -80,6 +95,7 @@ impl PlaneGuidance {
                 requested: 1,
                 altitude: PiLoop { integral: 0.0 },
                 tecs: reset(),
+                former: no_former(),
             })
         } else {
             Created::Refused(field)
@@ -123,6 +139,7 @@ impl PlaneGuidance {
         cleared(self, self.requested)
     }
 
+    // An accepted change keeps the configuration that it replaces, to be taken back.
     pub fn set_config(self, config: PlaneGuidanceConfig) -> Configured
         ensures { λ r. ⌜ r ≡ spec.configured self config ⌝ }
     {
@@ -130,6 +147,7 @@ impl PlaneGuidance {
         if field == 0 {
             let altitude = self.altitude;
             let tecs = self.tecs;
+            let before = self.config;
             Configured {
                 field,
                 guidance: PlaneGuidance {
@@ -137,12 +155,42 @@ impl PlaneGuidance {
                     requested: self.requested,
                     altitude,
                     tecs,
+                    former: Former {
+                        kept: 1,
+                        config: before,
+                    },
                 },
             }
         } else {
             Configured {
                 field,
                 guidance: self,
+            }
+        }
+    }
+
+    // Document 02, K11: the configuration before the last accepted change is in force again and is forgotten; the integrals stay.
+    pub fn take_back(self) -> TakenBack
+        ensures { λ r. ⌜ r ≡ spec.takenBack self ⌝ }
+    {
+        if self.former.kept == 0 {
+            TakenBack {
+                refusal: 14,
+                guidance: self,
+            }
+        } else {
+            let config = self.former.config;
+            let altitude = self.altitude;
+            let tecs = self.tecs;
+            TakenBack {
+                refusal: 0,
+                guidance: PlaneGuidance {
+                    config,
+                    requested: self.requested,
+                    altitude,
+                    tecs,
+                    former: no_former(),
+                },
             }
         }
     }

@@ -4,6 +4,14 @@ use laws::navigation::PiLoop;
 use laws::tecs::Tecs;
 use laws::types::Setpoint;
 
+// Document 02, K11: the configuration before the last accepted change. `kept` is 0 where there is none to take back; the numbers
+// are then the default configuration's.
+#[repr(C)]
+pub struct Former {
+    pub kept: u32,
+    pub config: PlaneGuidanceConfig,
+}
+
 // A guidance: f32 and u32 only, since a host holds it. `requested` is the requested regime: 0 copter, not 0 plane.
 #[repr(C)]
 pub struct PlaneGuidance {
@@ -11,6 +19,7 @@ pub struct PlaneGuidance {
     pub requested: u32,
     pub altitude: PiLoop,
     pub tecs: Tecs,
+    pub former: Former,
 }
 
 // What `new` gives: number 1 with the failing field, or a guidance.
@@ -59,6 +68,12 @@ pub struct Guided {
 // What `set_config` gives: 0 or the failing field, and the guidance after it.
 pub struct Configured {
     pub field: u32,
+    pub guidance: PlaneGuidance,
+}
+
+// What `take_back` gives: 0 or 14, and the guidance after it.
+pub struct TakenBack {
+    pub refusal: u32,
     pub guidance: PlaneGuidance,
 }
 

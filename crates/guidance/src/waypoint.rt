@@ -289,6 +289,7 @@ fn flown(
     ensures { λ r. ⌜ r ≡ spec.flown g regime lateral law v ⌝ }
 {
     let config = g.config;
+    let former = g.former;
     let altitude = v.altitude;
     let tecs = v.tecs;
     let requested = regime_number(regime);
@@ -308,6 +309,7 @@ fn flown(
             requested,
             altitude,
             tecs,
+            former,
         },
         answer: Answer::Waypoint(WaypointAnswer {
             setpoint,

@@ -158,6 +158,15 @@ fn configured(row: &[u8; 212], g: PlaneGuidance) -> Checked {
     }
 }
 
+fn taken_back(row: &[u8; 212], g: PlaneGuidance) -> Checked {
+    let back = g.take_back();
+    let h = back.guidance;
+    Checked {
+        guidance: h,
+        right: (word(row, 34) == back.refusal) & state_right(row, h),
+    }
+}
+
 // `guide` where the row has no cap.
 fn answered(row: &[u8; 212], g: PlaneGuidance) -> Guided {
     let dt = number(row, 2);
@@ -186,6 +195,7 @@ pub fn try_call(row: &[u8; 212], g: PlaneGuidance) -> Checked {
         0 => primed(row, g),
         7 => configured(row, g),
         8 => created(row, g),
+        9 => taken_back(row, g),
         _ => guided(row, g),
     }
 }

@@ -7,6 +7,7 @@ mod rows;
 use case_rows::Count;
 use case_rows::plus;
 use case_rows::print_count;
+use guidance::plane::Former;
 use guidance::plane::PlaneGuidance;
 use laws::config;
 use laws::navigation::PiLoop;
@@ -27,6 +28,10 @@ fn start() -> PlaneGuidance {
         requested: 1,
         altitude: PiLoop { integral: 0.0 },
         tecs: tecs::reset(),
+        former: Former {
+            kept: 0,
+            config: config::default(),
+        },
     }
 }
 
@@ -98,6 +103,7 @@ fn main() {
     total = try_group(b"underspeed", total);
     total = try_group(b"flights", total);
     total = try_group(b"settings", total);
+    total = try_group(b"takings_back", total);
     total = try_group(b"ties", total);
     total = try_group(b"wild", total);
     print_count(b"total", total);

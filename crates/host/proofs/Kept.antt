@@ -1,4 +1,4 @@
--- A guide or prime call keeps the configuration, so that it need not be put back.
+-- A guide or prime call keeps the configuration in force and the kept one, so that they need not be put back.
 -- Assumes nothing.
 use mathlib.Core.Path.{_≡_, refl}
 use mathlib.Core.List.{List}

@@ -4,7 +4,7 @@ use mathlib.Core.Bool.{cond}
 use mathlib.Core.List.{List}
 use lib.Dec.{eqb}
 use Rattle.guidance.specs.Plane.{created}
-use Rattle.claims.specs.Calls.{Call, setConfig, perform}
+use Rattle.claims.specs.Calls.{Call, setConfig, takeBack, perform}
 use Rattle.guidance.specs.declared.plane.PlaneGuidance.{PlaneGuidance}
 use Rattle.guidance.specs.declared.plane.Created.{Created}
 use Rattle.guidance.specs.declared.plane.Created.the-variants as New
@@ -54,10 +54,15 @@ ofNew g (config.Read c next) = made g (created c) next
 unfoldable pub runNew : PlaneGuidance → List ℕ → Ran
 runNew g bytes = ofNew g (readConfig bytes 0)
 
+-- what 3: a change taken back, of which no byte is read
+unfoldable pub runBack : PlaneGuidance → Ran
+runBack g = performed g takeBack 0
+
 -- any other number is refused with 255, which is none of document 01's numbers
 unfoldable pub run : PlaneGuidance → ℕ → List ℕ → Ran
 run g what bytes =
     cond (eqb what 0) (runCall g bytes)
     (cond (eqb what 1) (runConfig g bytes)
     (cond (eqb what 2) (runNew g bytes)
-    (unchanged g 255 0 0)))
+    (cond (eqb what 3) (runBack g)
+    (unchanged g 255 0 0))))

@@ -90,6 +90,18 @@ fn run_new(g: PlaneGuidance, bytes: &[u8]) -> Ran
     }
 }
 
+// A change taken back (document 02, K11); no byte is read.
+fn run_back(g: PlaneGuidance) -> Ran
+    ensures { λ r. ⌜ r ≡ spec.runBack g ⌝ }
+{
+    let done = g.take_back();
+    let guidance = done.guidance;
+    Ran {
+        guidance,
+        answer: bare(done.refusal, 0, 0),
+    }
+}
+
 pub fn run(g: PlaneGuidance, what: u32, bytes: &[u8]) -> Ran
     ensures { λ r. ⌜ r ≡ spec.run g what (now (bytes .entry)) ⌝ }
 {
@@ -102,13 +114,16 @@ pub fn run(g: PlaneGuidance, what: u32, bytes: &[u8]) -> Ran
     if what == 2 {
         return run_new(g, bytes);
     }
+    if what == 3 {
+        return run_back(g);
+    }
     Ran {
         guidance: g,
         answer: bare(255, 0, 0),
     }
 }
 
-// A call changes no configuration, so that is put back only where it may have changed.
+// A call changes no configuration, neither the one in force nor the kept one: they are put back only where they may have changed.
 #[no_mangle]
 pub extern "C" fn nuthkolla_run(guidance: &mut PlaneGuidance, what: u32, bytes: &[u8]) -> RunAnswer
     ensures { λ r. ⌜ (now (guidance .exit) ≡ spec.run (now (guidance .entry)) what (now (bytes .entry)) .guidance) × (r ≡ spec.run (now (guidance .entry)) what (now (bytes .entry)) .answer) ⌝ }
@@ -117,6 +132,7 @@ pub extern "C" fn nuthkolla_run(guidance: &mut PlaneGuidance, what: u32, bytes: 
     let r = run(g, what, bytes);
     if what != 0 {
         guidance.config = r.guidance.config;
+        guidance.former = r.guidance.former;
     }
     guidance.requested = r.guidance.requested;
     guidance.altitude = r.guidance.altitude;

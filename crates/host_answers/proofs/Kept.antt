@@ -1,4 +1,4 @@
--- A guide call keeps the configuration, so that a function by reference need not put it back.
+-- A guide call keeps the configuration in force and the kept one, so that a function by reference need not put them back.
 -- Assumes nothing.
 use mathlib.Core.Path.{_≡_, refl}
 use mathlib.Core.Bool.{Bool, true, false, cond}

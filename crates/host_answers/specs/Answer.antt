@@ -6,7 +6,7 @@ use lib.Ieee.{Float}
 use Rattle.arithmetic.specs.Constants.{n0}
 use Rattle.laws.specs.declared.types.Setpoint.{Setpoint}
 use Rattle.laws.specs.declared.types.Setpoint.the-variants as Set
-use Rattle.claims.specs.Calls.{Reply, answered, done, field}
+use Rattle.claims.specs.Calls.{Reply, answered, done, field, back}
 use Rattle.guidance.specs.declared.plane.LateralLaw.{LateralLaw}
 use Rattle.guidance.specs.declared.plane.LateralLaw.the-variants.{Track, Loiter, Idle}
 use Rattle.guidance.specs.declared.plane.VerticalLaw.{VerticalLaw}
@@ -87,3 +87,4 @@ abbrev pub ofReply : Reply → ℕ → RunAnswer
 ofReply (answered a) next = ofAnswer a next
 ofReply done next = bare 0 0 next
 ofReply (field n) next = ofField n next
+ofReply (back n) next = bare n 0 next

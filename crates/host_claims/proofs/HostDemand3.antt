@@ -41,6 +41,7 @@ refused-too g i k next e = sym (ap (λ (o : Ran). refused (o .answer)) (as-call 
 inputs-beside : (g : PlaneGuidance) (rest : List Input) → OneList rest → calls-of.BesideFresh g (callsOf rest) → BesideFresh g rest
 inputs-beside g rest n b = record {
   valid = b .valid;
+  kept-valid = b .kept-valid;
   same = answers-told g rest n ∙ ap (told rest) (b .same) ∙ sym (answers-told (freshWith (settingsOf g)) rest n);
 }
 

@@ -15,7 +15,7 @@ use Rattle.guidance.specs.Plane.{fresh, created}
 use Rattle.guidance.specs.declared.plane.PlaneGuidance.{PlaneGuidance}
 use Rattle.guidance.specs.declared.plane.Created.the-variants as New
 use Rattle.guidance.specs.declared.plane.Answer.the-variants.{Refused, Commanded, Waypoint}
-use Rattle.claims.specs.Calls.{Call, perform, Reply, answered, done, field, replies, after, refusals, strikes, unmarked, struck, fellBack}
+use Rattle.claims.specs.Calls.{Call, takeBack, perform, Reply, answered, done, field, back, replies, after, refusals, strikes, unmarked, struck, fellBack}
 use Rattle.claims.specs.Calls as calls
 use Rattle.records.specs.Call.{readCall}
 use Rattle.records.specs.Config.{readConfig}
@@ -24,7 +24,7 @@ use Rattle.records.specs.declared.call.ReadCall.the-variants as call
 use Rattle.records.specs.declared.config.ReadConfig.{ReadConfig}
 use Rattle.records.specs.declared.config.ReadConfig.the-variants as config
 use Rattle.host_answers.specs.Answer.{bare, ofSetpoint, ofField, ofReply}
-use Rattle.host.specs.Run.{unchanged, performed, made, ofCall, ofConfig, ofNew, runCall, runConfig, runNew, run}
+use Rattle.host.specs.Run.{unchanged, performed, made, ofCall, ofConfig, ofNew, runCall, runConfig, runNew, runBack, run}
 use Rattle.host_answers.specs.declared.answer.RunAnswer.{RunAnswer}
 use Rattle.host.specs.declared.run.Ran.{Ran}
 use Rattle.host_claims.specs.Inputs.{Input, Meaning, aCall, aFresh, refusedAs, callMeaning, configMeaning, newOf, newMeaning, meaning, runOn, answers, left, callsBy, callsOf, NoFresh, OneList, refused, struckBy, fellBackBy, strikesBy, toldBy, told}
@@ -58,8 +58,8 @@ new-is g (config.Refused n) = refl
 new-is g (config.Read c next) = made-is g c next
 
 pub run-is : (g : PlaneGuidance) (i : Input) → runOn g i ≡ runAs g (meaning i)
-unfolding run runCall runConfig runNew meaning
-run-is g i = go (eqb (i .what) 0) (eqb (i .what) 1) (eqb (i .what) 2)
+unfolding run runCall runConfig runNew runBack meaning
+run-is g i = go (eqb (i .what) 0) (eqb (i .what) 1) (eqb (i .what) 2) (eqb (i .what) 3)
   where
     r : ReadCall
     r = readCall (i .bytes) 0
@@ -67,13 +67,14 @@ run-is g i = go (eqb (i .what) 0) (eqb (i .what) 1) (eqb (i .what) 2)
     s : ReadConfig
     s = readConfig (i .bytes) 0
 
-    go : (a b c : Bool) →
-        cond a (ofCall g r) (cond b (ofConfig g s) (cond c (ofNew g s) (unchanged g 255 0 0)))
-        ≡ runAs g (cond a (callMeaning r) (cond b (configMeaning s) (cond c (newMeaning s) (refusedAs 255 0 0))))
-    go true b c = call-is g r
-    go false true c = config-is g s
-    go false false true = new-is g s
-    go false false false = refl
+    go : (a b c d : Bool) →
+        cond a (ofCall g r) (cond b (ofConfig g s) (cond c (ofNew g s) (cond d (performed g takeBack 0) (unchanged g 255 0 0))))
+        ≡ runAs g (cond a (callMeaning r) (cond b (configMeaning s) (cond c (newMeaning s) (cond d (aCall takeBack 0) (refusedAs 255 0 0)))))
+    go true b c d = call-is g r
+    go false true c d = config-is g s
+    go false false true d = new-is g s
+    go false false false true = refl
+    go false false false false = refl
 
 -- the host sees a refusal where the reply is one
 setpoint-accepted : (t : Setpoint) (lateral vertical : ℕ) (off : Float) (next : ℕ) → ofSetpoint t lateral vertical off next .refusal ≡ 0
@@ -86,6 +87,7 @@ refused-is (answered (Refused n)) next = refl
 refused-is (answered (Commanded t)) next = ap (λ (n : ℕ). not (eqb n 0)) (setpoint-accepted t 0 0 n0 next)
 refused-is (answered (Waypoint a)) next = ap (λ (n : ℕ). not (eqb n 0)) (setpoint-accepted (a .setpoint) _ _ _ next)
 refused-is done next = refl
+refused-is (back n) next = refl
 refused-is (field n) next = go (eqb n 0)
   where
     go : (b : Bool) → refused (cond b (bare 0 0 next) (bare 1 n next)) ≡ not b
@@ -267,7 +269,7 @@ made-passes (config.Read c next) = new-passes c next
 
 pub passes : (i : Input) (c : PlaneGuidanceConfig) (next : ℕ) → meaning i ≡ aFresh c next → validate c ≡ 0
 unfolding meaning
-passes i c next e = subst Passes e (go (eqb (i .what) 0) (eqb (i .what) 1) (eqb (i .what) 2))
+passes i c next e = subst Passes e (go (eqb (i .what) 0) (eqb (i .what) 1) (eqb (i .what) 2) (eqb (i .what) 3))
   where
     called : Meaning
     called = callMeaning (readCall (i .bytes) 0)
@@ -275,11 +277,13 @@ passes i c next e = subst Passes e (go (eqb (i .what) 0) (eqb (i .what) 1) (eqb 
     read : ReadConfig
     read = readConfig (i .bytes) 0
 
-    go : (x y z : Bool) → Passes (cond x called (cond y (configMeaning read) (cond z (newMeaning read) (refusedAs 255 0 0))))
-    go true y z = call-passes (readCall (i .bytes) 0)
-    go false true z = config-passes read
-    go false false true = made-passes read
-    go false false false = tt
+    go : (x y z b : Bool) →
+        Passes (cond x called (cond y (configMeaning read) (cond z (newMeaning read) (cond b (aCall takeBack 0) (refusedAs 255 0 0)))))
+    go true y z b = call-passes (readCall (i .bytes) 0)
+    go false true z b = config-passes read
+    go false false true b = made-passes read
+    go false false false true = tt
+    go false false false false = tt
 
 -- what follows a fresh guidance does not depend on what came before
 pub fresh-next : (g : PlaneGuidance) (i : Input) (is : List Input) (c : PlaneGuidanceConfig) (next : ℕ) → meaning i ≡ aFresh c next →

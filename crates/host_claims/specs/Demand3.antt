@@ -10,10 +10,11 @@ use Rattle.claims.specs.Calls.{Call, replies, unmarked, startsFresh, settingsOf
 use Rattle.claims.specs.Limits.{atStart, AllObey}
 use Rattle.host_claims.specs.Inputs.{Input, aCall, meaning, runOn, answers, left, callsOf, OneList, refused, inputMarks, told}
 
--- Directly after a fresh start: the configuration of that moment passes `validate`, and all inputs that follow get the
--- answers that a fresh guidance with the settings of that moment gives.
+-- Directly after a fresh start: the configuration of that moment passes `validate`, the kept one too, and all inputs that follow get
+-- the answers that a fresh guidance with the settings of that moment gives.
 pub record BesideFresh (g : PlaneGuidance) (rest : List Input) : Type 0 where
   pub valid : validate (settingsOf g .config) ≡ 0
+  pub kept-valid : validate (settingsOf g .former .config) ≡ 0
   pub same : answers g rest ≡ answers (freshWith (settingsOf g)) rest
 
 -- Of the list `inputs`, run on a guidance that NEW made of the configuration c.

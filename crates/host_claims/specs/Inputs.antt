@@ -9,7 +9,7 @@ use Rattle.guidance.specs.Plane.{fresh, created}
 use Rattle.guidance.specs.declared.plane.PlaneGuidance.{PlaneGuidance}
 use Rattle.guidance.specs.declared.plane.Created.{Created}
 use Rattle.guidance.specs.declared.plane.Created.the-variants as New
-use Rattle.claims.specs.Calls.{Call, setConfig, Reply, struck, fellBack}
+use Rattle.claims.specs.Calls.{Call, setConfig, takeBack, Reply, struck, fellBack}
 use Rattle.records.specs.Call.{readCall}
 use Rattle.records.specs.Config.{readConfig}
 use Rattle.records.specs.declared.call.ReadCall.{ReadCall}
@@ -57,7 +57,8 @@ meaning i =
     cond (eqb (i .what) 0) (callMeaning (readCall (i .bytes) 0))
     (cond (eqb (i .what) 1) (configMeaning (readConfig (i .bytes) 0))
     (cond (eqb (i .what) 2) (newMeaning (readConfig (i .bytes) 0))
-    (refusedAs 255 0 0)))
+    (cond (eqb (i .what) 3) (aCall takeBack 0)
+    (refusedAs 255 0 0))))
 
 -- ---- a run: each input gets the guidance that the one before it left
 

@@ -13,7 +13,7 @@ use Rattle.laws.specs.Config.{validate}
 use Rattle.laws.specs.declared.config.PlaneGuidanceConfig.{PlaneGuidanceConfig}
 use Rattle.laws.specs.declared.types.Setpoint.{Setpoint}
 use Rattle.laws.specs.declared.types.Setpoint.the-variants as Set
-use Rattle.claims.specs.Calls.{Reply, answered, done, field, perform}
+use Rattle.claims.specs.Calls.{Reply, answered, done, field, back, perform}
 use Rattle.guidance.specs.Plane.{fresh, created}
 use Rattle.guidance.specs.declared.plane.PlaneGuidance.{PlaneGuidance}
 use Rattle.guidance.specs.declared.plane.Created.{Created}
@@ -86,6 +86,7 @@ unfolding replyLine primeLine refusedLine
 reply-count n (answered a) = answer-count n a
 reply-count n done = omega arith
 reply-count n (field f) = omega arith
+reply-count n (back r) = omega arith
 
 pub turn-count : (n : ℕ) (g : PlaneGuidance) (k : Call) → callLine n g k .line .count ≤ 4
 unfolding callLine

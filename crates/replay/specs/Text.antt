@@ -81,11 +81,12 @@ answerLine n (Answered.Commanded s) = setpointLine n (kindWord s) word.None s
 answerLine n (Answered.Waypoint a) =
     waypointLine n (lateralWord (a .laws .lateral)) (verticalWord (a .laws .vertical)) (a .setpoint) (a .«cross_track_m»)
 
--- no record of a recording's calls sets a configuration, so no reply is a field
+-- no record of a recording's calls sets a configuration or takes one back, so no reply is a field or 14
 unfoldable pub replyLine : ℕ → Reply → Line
 replyLine n (guidance.answered a) = answerLine n a
 replyLine n guidance.done = primeLine n
 replyLine n (guidance.field f) = refusedLine n f
+replyLine n (guidance.back r) = refusedLine n r
 
 -- ---- the lines of a list of calls
 

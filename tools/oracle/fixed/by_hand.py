@@ -248,6 +248,23 @@ def settings():
     return lines + ["01 " + DEFAULTS, energy, energy]
 
 
+def takings_back():
+    """A list: changes taken back (K11), with what may stand between, and what makes a trace."""
+    guide = lambda **fields: "00 " + waypoint(**fields)
+    setting = lambda fields, remark="": f"01 {configuration(fields)} # {remark}"
+    energy, fallback = guide(**{**FLIGHT, "airspeed": 15.0}), guide(**FLIGHT)
+    back, prime = "02", "00 " + call("prime")
+    lines = [DEFAULTS, f"{back} # nothing to take back", energy]
+    lines += [setting({1: 1.0}, "a wider bank"), back, f"{back} # twice", energy, fallback]
+    lines += [setting({7: 0.125}), prime, setting({27: 0.0}, "refused: does not count"), energy, back, energy]
+    lines += [setting({8: 0.25}), setting({8: 0.75}), fallback, back, fallback, f"{back} # only one is kept", fallback]
+    lines += [setting({8: 0.25}, "equal to the one in force, and kept all the same"), "00 " + call("land", step=1.0), back, energy]
+    # A waypoint that the changed setting refuses may be one that the former accepts: the answers at airspeed 15 differ.
+    rushing, level = guide(cruise=20.0, airspeed=1e30), guide(cruise=20.0, airspeed=15.0)
+    lines += [setting({}, "the defaults"), prime, setting({23: 0.0}, "speed_weight 0"), f"{rushing} # refused 4", back, f"{level} # pitch bd57f532"]
+    return lines + [prime, rushing, f"{level} # pitch bedf66f3"]
+
+
 def configurations():
     """Whole inputs, a line each: configurations that are taken, refused and stopped at."""
     lines = ["", "00", "00000000", DEFAULTS]
@@ -305,5 +322,5 @@ RECORDINGS = {
     "speed-demand": speed_demand(),
     "sticks": sticks(),
 }
-LISTS = {"settings": settings()}
+LISTS = {"settings": settings(), "takings-back": takings_back()}
 INPUTS = {"configurations": configurations(), "damaged-by-hand": damaged()}

@@ -2,7 +2,8 @@
 
 use crate::flown::judge::Plane;
 use crate::flown::{Flown, State, validate};
-use crate::guidance::{self, Answer, Lateral, Vertical};
+use crate::configuration::{self, Numbers};
+use crate::guidance::{self, Answer, Lateral, Settings, Vertical};
 use crate::record::{self, Regime, bits};
 
 /// The desk program reads this many calls.
@@ -22,7 +23,7 @@ pub enum Print {
 pub enum Form {
     /// Call records.
     Recording,
-    /// A byte 0 and a call record, or a byte 1 and a configuration record.
+    /// A byte 0 and a call record, a byte 1 and a configuration record, or a byte 2, a taking back.
     List,
 }
 
@@ -67,11 +68,23 @@ pub fn state_text(state: &State) -> String {
     )
 }
 
+/// A sum of a configuration's bits, so that a line shows whether it changed.
+fn sum(numbers: &Numbers) -> u32 {
+    numbers.iter().fold(0, |sum, number| sum.wrapping_mul(16_777_619).wrapping_add(bits(*number)))
+}
+
+/// Whether a configuration is kept to be taken back, and sums of the one in force and of the kept one, the default where there is none.
+fn settings_text(settings: &Settings) -> String {
+    let former = settings.former.unwrap_or_else(configuration::default);
+    format!("{} {:08x} {:08x}", settings.former.is_some() as u32, sum(&settings.numbers), sum(&former))
+}
+
 struct Run<'a> {
     input: &'a [u8],
     place: usize,
     form: Form,
     guidance: Plane,
+    settings: Settings,
 }
 
 impl Run<'_> {
@@ -85,6 +98,7 @@ impl Run<'_> {
         match tag {
             0 => self.next_call().map_err(|number| number.to_string()),
             1 => self.next_configuration().map_err(|number| number.to_string()),
+            2 => Ok(self.next_taking_back()),
             _ => Err("tag".to_string()),
         }
     }
@@ -101,10 +115,17 @@ impl Run<'_> {
     fn next_configuration(&mut self) -> Result<String, u32> {
         let (numbers, next) = record::read_configuration(self.input, self.place)?;
         self.place = next;
-        Ok(match guidance::set_configuration(&mut self.guidance, &numbers) {
+        Ok(match guidance::set_configuration(&mut self.guidance, &mut self.settings, &numbers) {
             Ok(()) => "set".to_string(),
             Err(field) => format!("refused 1 {field}"),
         })
+    }
+
+    fn next_taking_back(&mut self) -> String {
+        match guidance::take_back(&mut self.guidance, &mut self.settings) {
+            Ok(()) => "back".to_string(),
+            Err(number) => format!("refused {number}"),
+        }
     }
 }
 
@@ -118,7 +139,7 @@ pub fn lines(input: &[u8], form: Form, print: Print) -> String {
     if field != 0 {
         return format!("config refused {field}\n");
     }
-    let mut run = Run { input, place, form, guidance: Plane::new(&numbers) };
+    let mut run = Run { input, place, form, guidance: Plane::new(&numbers), settings: Settings::new(&numbers) };
     let mut out = String::new();
     for n in 1.. {
         if run.place == input.len() {
@@ -134,7 +155,7 @@ pub fn lines(input: &[u8], form: Form, print: Print) -> String {
                     out += &format!("{n} {text}\n");
                 }
                 if print != Print::Answers {
-                    out += &format!("{n} {}\n", state_text(&run.guidance.state()));
+                    out += &format!("{n} {} {}\n", state_text(&run.guidance.state()), settings_text(&run.settings));
                 }
             }
             Err(reason) => {

@@ -1,5 +1,6 @@
 //! Generated inputs, deterministic by kind and seed.
 
+mod backs;
 mod crossed;
 mod damaged;
 mod flights;
@@ -17,6 +18,7 @@ use crate::record::{self, Call, NAMED_BITS};
 pub enum Item {
     Call(Vec<u8>),
     Set(Vec<u8>),
+    Back,
 }
 
 /// A first configuration record and what follows it, each as bytes.
@@ -26,13 +28,14 @@ pub struct Input {
 }
 
 impl Input {
-    /// As a recording, which has no set-configuration calls, or as a list.
+    /// As a recording, which has no set-configuration calls and no taking back, or as a list.
     pub fn bytes(&self, form: Form) -> Vec<u8> {
         let mut bytes = self.configuration.clone();
         for item in &self.items {
             match (form, item) {
                 (Form::Recording, Item::Call(record)) => bytes.extend(record),
-                (Form::Recording, Item::Set(_)) => {}
+                (Form::Recording, Item::Set(_) | Item::Back) => {}
+                (Form::List, Item::Back) => bytes.push(2),
                 (Form::List, Item::Call(record)) => {
                     bytes.push(0);
                     bytes.extend(record);
@@ -55,6 +58,7 @@ pub fn input(kind: &str, seed: u64, calls: usize) -> Option<Input> {
     match kind {
         "rare" => return Some(rare::input(seed, calls)),
         "crossed" => return Some(crossed::input(seed, calls)),
+        "backs" => return Some(backs::input(seed, calls)),
         _ => {}
     }
     let index = KINDS.iter().position(|known| *known == kind)?;

@@ -1,10 +1,12 @@
-//! Document 01's calls over a guidance of the Rust: refusals 1 to 4 and the law names, with document 02's idle.
+//! Document 01's calls over a guidance of the Rust: refusals 1 to 4 and the law names, with document 02's idle and taking back.
 
 use crate::configuration::{Numbers, crossed};
 use crate::flown::{Flown, Setpoint, validate};
 use crate::lateral::distance;
 use crate::record::{Call, Command, Waypoint};
 
+/// No change is left to take back.
+pub const NOTHING_KEPT: u32 = 14;
 /// The time step is not finite or not above 0.
 pub const BAD_TIME_STEP: u32 = 2;
 /// A waypoint's cap is below 0.
@@ -126,10 +128,33 @@ pub fn sound<F: Flown>(answer: &Answer, next: &F) -> bool {
     pitch.is_finite() && thrust.is_finite() && stored.iter().all(|number| number.is_finite())
 }
 
-/// A set-configuration call: the number of the first failing field if it is refused. The Rust gets ordered pairs only.
-pub fn set_configuration<F: Flown>(guidance: &mut F, numbers: &Numbers) -> Result<(), u32> {
-    match crossed(numbers) {
-        0 => guidance.set_config(numbers),
-        _ => Err(validate(numbers)),
+/// The configuration in force, and the one before the last accepted change (K11), which the Rust has not.
+#[derive(Clone, Copy)]
+pub struct Settings {
+    pub numbers: Numbers,
+    pub former: Option<Numbers>,
+}
+
+impl Settings {
+    pub fn new(numbers: &Numbers) -> Self {
+        Settings { numbers: *numbers, former: None }
     }
+}
+
+/// A set-configuration call: the number of the first failing field if it is refused. The Rust gets ordered pairs only.
+pub fn set_configuration<F: Flown>(guidance: &mut F, settings: &mut Settings, numbers: &Numbers) -> Result<(), u32> {
+    match crossed(numbers) {
+        0 => guidance.set_config(numbers)?,
+        _ => return Err(validate(numbers)),
+    }
+    *settings = Settings { numbers: *numbers, former: Some(settings.numbers) };
+    Ok(())
+}
+
+/// A taking back: the configuration before the last accepted change comes into force again and is forgotten; the state stays.
+pub fn take_back<F: Flown>(guidance: &mut F, settings: &mut Settings) -> Result<(), u32> {
+    let former = settings.former.take().ok_or(NOTHING_KEPT)?;
+    guidance.set_config(&former).expect("it was in force before");
+    settings.numbers = former;
+    Ok(())
 }

@@ -3,10 +3,9 @@
 
 use std::collections::BTreeMap;
 
-use crate::configuration::Numbers;
 use crate::desk::{Form, answer_text, state_text};
 use crate::flown::{Flown, State, counted, judge, validate};
-use crate::guidance::{self, Answer, Lateral, Vertical};
+use crate::guidance::{self, Answer, Lateral, Settings, Vertical};
 use crate::lateral;
 use crate::limits;
 use crate::original;
@@ -19,7 +18,7 @@ pub struct Tally {
 
 /// The judge and the counting copy, held in step.
 struct Pair {
-    numbers: Numbers,
+    settings: Settings,
     judge: judge::Plane,
     counted: counted::Plane,
 }
@@ -40,7 +39,8 @@ impl Tally {
             return self.add("configurations", format!("refused, field {field:2}"));
         }
         self.add("configurations", "taken");
-        let mut pair = Pair { numbers, judge: judge::Plane::new(&numbers), counted: counted::Plane::new(&numbers) };
+        let (judge, counted) = (judge::Plane::new(&numbers), counted::Plane::new(&numbers));
+        let mut pair = Pair { settings: Settings::new(&numbers), judge, counted };
         while place < input.len() {
             match self.step(&mut pair, input, place, form) {
                 Ok(next) => place = next,
@@ -61,16 +61,31 @@ impl Tally {
             self.call(pair, &call);
             return Ok(next);
         }
+        if input[place] == 2 {
+            self.take_back(pair);
+            return Ok(place + 1);
+        }
         let (numbers, next) = record::read_configuration(input, place + 1)?;
-        match guidance::set_configuration(&mut pair.judge, &numbers) {
+        let mut settings = pair.settings;
+        match guidance::set_configuration(&mut pair.judge, &mut pair.settings, &numbers) {
             Ok(()) => {
-                guidance::set_configuration(&mut pair.counted, &numbers).expect("as the judge");
-                pair.numbers = numbers;
+                guidance::set_configuration(&mut pair.counted, &mut settings, &numbers).expect("as the judge");
                 self.add("configurations", "set");
             }
             Err(field) => self.add("configurations", format!("refused, field {field:2}")),
         }
         Ok(next)
+    }
+
+    fn take_back(&mut self, pair: &mut Pair) {
+        let mut settings = pair.settings;
+        match guidance::take_back(&mut pair.judge, &mut pair.settings) {
+            Ok(()) => {
+                guidance::take_back(&mut pair.counted, &mut settings).expect("as the judge");
+                self.add("configurations", "taken back");
+            }
+            Err(number) => self.add("configurations", format!("refused {number}")),
+        }
     }
 
     fn call(&mut self, pair: &mut Pair, call: &Call) {
@@ -82,7 +97,7 @@ impl Tally {
         if let (Ok(Answer::Waypoint(_, _, numbers, off)), Call::Guide { command: Command::Waypoint(w), .. }) =
             (&answer, call)
         {
-            let broken = limits::broken(&pair.numbers, w, *numbers, &pair.judge.state());
+            let broken = limits::broken(&pair.settings.numbers, w, *numbers, &pair.judge.state());
             assert_eq!(broken, None, "{call:?} from {before:?}");
             self.add("distances", distance_name(w, *off));
         }
@@ -157,7 +172,7 @@ impl Tally {
             return;
         };
         // A refused call leaves the configuration, so this one is in force.
-        let name = match (answer, original::step(&pair.numbers, before, *regime, *time_step, command)) {
+        let name = match (answer, original::step(&pair.settings.numbers, before, *regime, *time_step, command)) {
             (Err(number), Err(place)) => format!("refused {number}, the Rust panics: {place}"),
             (Err(number), Ok((setpoint, state))) => {
                 let sound = original::all_finite(&setpoint, &state);

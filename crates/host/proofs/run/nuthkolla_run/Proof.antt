@@ -1,5 +1,5 @@
--- `nuthkolla_run` meets its contract: a walk of its MIR, by hand. The borrow is opened, the guidance is copied out of it, `run` is called on the copy, and the borrow is closed at the guidance that `run` returned: the configuration is stored where the number is not 0, and is the same where it is; then the other fields are stored. The record's bytes are lent on to `run`.
--- All that the proof knows of `run` is that it meets its contract, and of its definition that a call keeps the configuration.
+-- `nuthkolla_run` meets its contract: a walk of its MIR, by hand. The borrow is opened, the guidance is copied out of it, `run` is called on the copy, and the borrow is closed at the guidance that `run` returned: the configuration in force and the kept one are stored where the number is not 0, and are the same where it is; then the other fields are stored. The record's bytes are lent on to `run`.
+-- All that the proof knows of `run` is that it meets its contract, and of its definition that a call keeps both configurations.
 -- Assumes nothing.
 use mathlib.Core.Path.{_≡_, refl, ap, sym, _∙_}
 use mathlib.Core.Bool.{Bool, true, false, not}
@@ -55,6 +55,8 @@ use Rattle.laws.proofs.tecs.Tecs.Laws as Energy′
 use Rattle.host.proofs.Kept.{run-keeps}
 use Rattle.host.specs.Run.{run as runOf}
 use Rattle.guidance.specs.declared.plane.PlaneGuidance.{PlaneGuidance}
+use Rattle.guidance.proofs.plane.Former as Former
+use Rattle.guidance.proofs.plane.Former.Laws as Former′
 use Rattle.claims.specs.Calls.{Settings, settingsOf}
 use Rattle.guidance.proofs.plane.PlaneGuidance as T
 use Rattle.guidance.proofs.plane.PlaneGuidance.Laws as T′
@@ -147,6 +149,9 @@ module _ {M : Type 1} (𝓤 : URA M) (H : Heap 𝓤) (A : Atoms 𝓤) (W : Given
   tecs-of : (r : Ran) → Is S.the-row r (mach′ r ∷ []) → Is Energy.the-row (r .guidance .tecs) (LL.val Energy.the-type Energy′.the-laws (r .guidance .tecs) ∷ [])
   tecs-of r is = LL.owed T.the-type T′.the-laws (r .guidance) _ (guidance-of r is) .1 .1 .1 .0
 
+  former-of : (r : Ran) → Is S.the-row r (mach′ r ∷ []) → Is Former.the-row (r .guidance .former) (LL.val Former.the-type Former′.the-laws (r .guidance .former) ∷ [])
+  former-of r is = LL.owed T.the-type T′.the-laws (r .guidance) _ (guidance-of r is) .1 .1 .1 .1 .0
+
   answer-of : (r : Ran) → Is S.the-row r (mach′ r ∷ []) → Is O.the-row (r .answer) (LL.val O.the-type O′.the-laws (r .answer) ∷ [])
   answer-of r is = LL.owed S.the-type S′.the-laws r _ is .1 .0
 
@@ -162,7 +167,7 @@ module _ {M : Type 1} (𝓤 : URA M) (H : Heap 𝓤) (A : Atoms 𝓤) (W : Given
 
   -- the guidance with other settings
   abbrev with-settings : Settings → PlaneGuidance
-  with-settings t = record { config = t .config; requested = h .requested; altitude = h .altitude; tecs = h .tecs }
+  with-settings t = record { config = t .config; requested = h .requested; altitude = h .altitude; tecs = h .tecs; former = t .former }
 
   abbrev ref-ty : Ty
   ref-ty = tyRef (named 0) mut (pointee (T.the-row .written))
@@ -207,7 +212,8 @@ module _ {M : Type 1} (𝓤 : URA M) (H : Heap 𝓤) (A : Atoms 𝓤) (W : Given
     puts-config : Sq W (Before h) (runs C Λ Locals parts.s-4 Then)
     puts-config =
         branches ! (load ! (from ! (stop !)) (look ! 6 refl))
-        (λ t. assigns-last ! (of-opd ! (load ! (from ! (fld ! refl (fld ! refl (stop !)))) (look-in ! 8 (sub ! 0 refl (sub ! 0 refl (whole !)))))) (from ! (hop ! (look ! 16 refl) (fld ! refl (stop !)))) (store-in ! 2 (sub ! 0 refl (whole !)) (LL.lawful Config.the-type Config′.the-laws 𝓤 H A W .typed (r .guidance .config) _ (config-of r is) .0)) $
+        (λ t. assigns ! (of-opd ! (load ! (from ! (fld ! refl (fld ! refl (stop !)))) (look-in ! 8 (sub ! 0 refl (sub ! 0 refl (whole !)))))) (from ! (hop ! (look ! 16 refl) (fld ! refl (stop !)))) (store-in ! 2 (sub ! 0 refl (whole !)) (LL.lawful Config.the-type Config′.the-laws 𝓤 H A W .typed (r .guidance .config) _ (config-of r is) .0)) $
+        assigns-last ! (of-opd ! (load ! (from ! (fld ! refl (fld ! refl (stop !)))) (look-in ! 8 (sub ! 4 refl (sub ! 0 refl (whole !)))))) (from ! (hop ! (look ! 16 refl) (fld ! refl (stop !)))) (store-in ! 2 (sub ! 4 refl (whole !)) (LL.lawful Former.the-type Former′.the-laws 𝓤 H A W .typed (r .guidance .former) _ (former-of r is) .0)) $
         exec ! C Λ Locals parts.t-5 (atRet Locals Post) $ puts-back)
         (λ z. skips ! $ exec ! C Λ Locals parts.t-5 (atRet Locals Post) $
         rewrite ! 2 (λ (t : Settings). ‵ (fat fullShare T′.mir b o (mach (with-settings t)))) (same-settings h n (now s) r (is-zero n z) e) refl $ puts-back)

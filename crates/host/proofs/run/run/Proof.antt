@@ -19,7 +19,26 @@ returns-3 c =
 returns-4 : tie.Need-returns-4
 unfolding run
 returns-4 c =
-    rw (c .bare .ensures, ne-eqb _ _ (c .before .before .before .if1 .left), ne-eqb _ _ (c .before .before .if2 .left), ne-eqb _ _ (c .before .if3 .left))
+    let d = c .before .before .before in
+    rw (
+      c .run-back .ensures,
+      ne-eqb _ _ (d .before .if1 .left),
+      ne-eqb _ _ (d .if2 .left),
+      ne-eqb _ _ (c .before .before .if3 .left),
+      eq-eqb _ _ (c .before .if4 .taken),
+    )
+
+returns-5 : tie.Need-returns-5
+unfolding run
+returns-5 c =
+    let d = c .before .before .before in
+    rw (
+      c .bare .ensures,
+      ne-eqb _ _ (d .before .if1 .left),
+      ne-eqb _ _ (d .if2 .left),
+      ne-eqb _ _ (c .before .before .if3 .left),
+      ne-eqb _ _ (c .before .if4 .left),
+    )
 
 pub run-spec : {M : Type 1} → statement M
-run-spec = tie.close (tie.spec (λ c κs. tt) returns (λ c κs. tt) returns-2 (λ c κs. tt) returns-3 (λ c κs. tt) returns-4)
+run-spec = tie.close (tie.spec (λ c κs. tt) returns (λ c κs. tt) returns-2 (λ c κs. tt) returns-3 (λ c κs. tt) returns-4 (λ c κs. tt) returns-5)

@@ -6,7 +6,7 @@ use Rattle.guidance.proofs.plane.PlaneGuidance.set_config.Tie as tie
 returns : tie.Need-returns
 unfolding configured withConfig
 returns c =
-    let e = c .before .before in
+    let e = c .before .before .before in
     rw (← e .before .validate .ensures, eq-eqb _ _ (e .if1 .taken))
 
 returns-2 : tie.Need-returns-2
