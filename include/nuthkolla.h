@@ -234,6 +234,10 @@ uint32_t nuthkolla_validate(nuthkolla_config config);
  * regime, copter, is unsupported. */
 uint32_t nuthkolla_flight_mode(uint32_t requested);
 
+/* Whether the stall guard stands, from a guidance's `tecs.underspeed`: 1 where it does, else 0. It is why thrust is at its top: while
+ * it stands after an energy step, that step's thrust equals the top of its span. */
+uint32_t nuthkolla_stall_guard(uint32_t underspeed);
+
 #ifdef __cplusplus
 }
 #endif

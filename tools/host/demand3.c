@@ -5,6 +5,7 @@
  *   fresh     after each prime and each accepted command other than a waypoint, every call that follows is answered as by a fresh
  *             guidance with the configuration in force and the kept one, refusal numbers too
  *   limits    each accepted waypoint answer, by the configuration in force and underspeed worked out from the calls
+ *   guard     the stall guard's report after each call, by the latest energy step that tells (document 02, K12)
  * bit for bit, every NaN alike. A pass is a list of which all of this holds. A planted fault must make lists fail: see `plants`. */
 #include "lines.h"
 #include "records.h"
@@ -25,16 +26,17 @@ typedef struct entry {
     int kept;                /* whether a change can be taken back after it, and the configuration before that change */
     nuthkolla_config former;
     int underspeed, struck;
+    uint32_t report;         /* the stall guard's, after the call */
 } entry;
 
 static uint8_t input[1 << 20]; /* a list of MOST_CALLS calls has fewer bytes */
 static entry entries[MOST_CALLS];
 static unsigned long list_number;
-static unsigned long calls, struck, repeated, starts, beside_fresh, checked[4], full_thrust;
+static unsigned long calls, struck, repeated, starts, beside_fresh, checked[4], full_thrust, guarded;
 
-/* Faults of the guidance (trace, prime, full, forget) and of this program (strike, narrow). */
-static const char *const plants[] = {"none", "trace", "prime", "full", "forget", "strike", "narrow"};
-enum { NONE, TRACE, PRIME, FULL, FORGET, STRIKE, NARROW, PLANTS };
+/* Faults of the guidance (trace, prime, full, forget, guard) and of this program (strike, narrow). */
+static const char *const plants[] = {"none", "trace", "prime", "full", "forget", "guard", "strike", "narrow"};
+enum { NONE, TRACE, PRIME, FULL, FORGET, GUARD, STRIKE, NARROW, PLANTS };
 
 /* A list's byte for a taking back, which has no record. */
 enum { BACK = 2 };
@@ -158,6 +160,7 @@ static size_t first_run(const uint8_t *list, size_t length)
         e->kept = kept;
         e->former = former;
         e->underspeed = underspeed = accepted(e) ? underspeed_after(e, underspeed) : underspeed;
+        e->report = nuthkolla_stall_guard(plant == GUARD && e->law == NUTHKOLLA_HOLD ? 0 : g.tecs.underspeed);
     }
     return place < length ? 0 : n;
 }
@@ -297,6 +300,37 @@ static int check_limits(size_t n)
     return 1;
 }
 
+/* ---- the stall guard */
+
+/* Of the energy steps since the last accepted prime, command other than a waypoint or fallback, the latest that was below share times
+ * least airspeed, or at or above least airspeed, by its own configuration, was below. */
+static uint32_t guard_stands(size_t at)
+{
+    for (size_t i = at + 1; i-- > 0;) {
+        const entry *e = &entries[i];
+        const nuthkolla_tecs_config *t = &e->config.tecs;
+        if (!accepted(e) || !is_call(e) || e->law == NUTHKOLLA_HOLD)
+            continue;
+        if (e->law != NUTHKOLLA_ENERGY)
+            return 0;
+        if (e->call.airspeed_mps < t->underspeed_share * t->min_airspeed_mps)
+            return 1;
+        if (e->call.airspeed_mps >= t->min_airspeed_mps)
+            return 0;
+    }
+    return 0;
+}
+
+static int check_guard(size_t n)
+{
+    for (size_t i = 0; i < n; i++) {
+        if (entries[i].report != guard_stands(i))
+            return failed(i, "another report of the stall guard");
+        guarded += entries[i].report;
+    }
+    return 1;
+}
+
 /* ---- many lists */
 
 /* 1 if demand 3 holds of the list, 0 if not. */
@@ -306,7 +340,7 @@ static int check_list(const uint8_t *list, size_t length)
     if (n == 0)
         return failed(0, "no list that can be run");
     calls += n;
-    return check_struck(list, length, n) & check_fresh(n) & check_limits(n);
+    return check_struck(list, length, n) & check_fresh(n) & check_limits(n) & check_guard(n);
 }
 
 static int plant_named(const char *name)
@@ -335,8 +369,9 @@ int main(int count, char **words)
         list_number, struck, repeated, starts, beside_fresh);
     printf("limits of %lu energy steps (%lu at full thrust by underspeed), %lu holds, %lu fallbacks\n", checked[NUTHKOLLA_ENERGY],
         full_thrust, checked[NUTHKOLLA_HOLD], checked[NUTHKOLLA_FALLBACK]);
+    printf("the stall guard's report after each call; it stands after %lu\n", guarded);
     printf("%lu passed, %lu failed\n", passed, failures);
-    int every = struck && repeated && beside_fresh && full_thrust && checked[NUTHKOLLA_HOLD] && checked[NUTHKOLLA_FALLBACK];
+    int every = struck && repeated && beside_fresh && full_thrust && guarded && checked[NUTHKOLLA_HOLD] && checked[NUTHKOLLA_FALLBACK];
     if (!every)
         printf("the lists do not reach every check\n");
     return failures != 0 || !every;

@@ -4,7 +4,7 @@ import statistics
 from typing import NamedTuple
 
 from nuthkolla.answers import Answer
-from nuthkolla.numbers import is_finite, value
+from nuthkolla.numbers import F32, is_finite, value
 from nuthkolla.record import Call
 
 # A time step that is longer than so many usual ones would leave no room for the rest.
@@ -128,3 +128,25 @@ def runs(flown, number_of):
 def in_force(flown):
     """The calls whose answers are in force in turn: a refused call and a prime leave the one before."""
     return [moment for moment in flown if not moment.refused and moment.answer.kind != "prime"]
+
+
+def stall_guard(configuration, flown):
+    """After each call, whether the stall guard stands, from the calls and their answers.
+
+    Of the energy steps since the last accepted prime, accepted command other than a waypoint or fallback, the latest that was below
+    share times least airspeed, or at or above least airspeed, was below.
+    """
+    least, share = (value(configuration[name]) for name in ("min_airspeed_mps", "underspeed_share"))
+    # The product of two f32s is exact in a double, so it is rounded once.
+    (low,) = F32.unpack(F32.pack(share * least))
+    stands, found = False, []
+    for moment in flown:
+        if not moment.refused and moment.law in (None, "fallback"):
+            stands = False
+        elif moment.law == "energy":
+            airspeed = moment.number_of("airspeed")
+            # Lines need not be the guidance's: a step without an airspeed is none of its own.
+            if airspeed is not None:
+                stands = airspeed < low or stands and airspeed < least
+        found.append(stands)
+    return found

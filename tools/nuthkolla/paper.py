@@ -48,6 +48,7 @@ def legend_items(flown):
         (lambda g, x, y: head(g, "way", (x + 19.0, y), (1.0, 0.0), 10), "direction of flight"),
         (lambda g, x, y: line(g, "limit", x, y, x + 28, y), "limits of waypoint answers"),
         (lambda g, x, y: line(g, "demand", x, y, x + 28, y), "height, cruise speed demanded"),
+        (lambda g, x, y: add(g, "rect", "guard", x=x, y=y - 6, width=28, height=12), "stall guard: thrust at its top"),
         (lambda g, x, y: line(g, "aim", x, y, x + 28, y), "leg or loiter circle that calls aim at, numbered in their order"),
         (lambda g, x, y: cross(g, "refused", x + 14, y, 4), f"refused call ({reasons})" if reasons else "refused call"),
     ]

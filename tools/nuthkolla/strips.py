@@ -4,7 +4,7 @@ import math
 from collections.abc import Callable
 from typing import NamedTuple
 
-from nuthkolla.flight import in_force, runs
+from nuthkolla.flight import in_force, runs, stall_guard
 from nuthkolla.numbers import is_finite, value
 from nuthkolla.svg import Scale, add, cross, frame, label, line, path, square, steps, usual_span
 
@@ -127,6 +127,15 @@ def draw_spans(page, column, top, bottom):
             line(page, "refused through", x, top, x, bottom)
 
 
+def draw_guard(page, column, configuration, top, bottom):
+    """Where the stall guard stands, which keeps an energy step's thrust at its top."""
+    stands = dict(zip((m.number for m in column.flown), stall_guard(configuration, column.flown)))
+    for run in runs(column.flown, lambda m: 1 if stands[m.number] else None):
+        first, last = column.time(run.steps[0][0]), column.time(run.end)
+        box = {"x": first, "y": top, "width": max(last - first, 1.0), "height": bottom - top}
+        add(page, "rect", "guard", **box, **{"data-calls": len(run.steps)})
+
+
 def strip_span(strip, limits, numbers, demands):
     """The least and the greatest that a strip shows: its limits, and what is not far off the rest."""
     if strip.name == "thrust":
@@ -202,6 +211,8 @@ def draw_strip(page, strip, column, configuration, top):
         line(page, "grid", column.left, scale(v), column.right, scale(v))
         label(page, "soft end", column.left - 7, scale(v) + 4, f"{v:g}")
     group = add(page, "g", f"strip-{strip.name}")
+    if strip.name == "thrust":
+        draw_guard(group, column, configuration, top, bottom)
     draw_limits(group, strip, column, limits, scale)
     draw_demand(group, strip, column, scale)
     for run in runs(flown, lambda m: inside(strip.number(m), scale)):

@@ -35,6 +35,7 @@ FILLS = {
     ".fallback": "paper",
     ".hold": "hold",
     ".span": "grid",
+    ".guard": "fallback",
 }
 DAY, NIGHT = 0, 1
 
@@ -69,7 +70,8 @@ text { font-family: "DejaVu Sans", Verdana, Arial, sans-serif; font-size: 13px; 
 .fallback { stroke-width: 1.4; }
 .hold { stroke-width: 1; }
 .ring { stroke-width: 1; stroke-dasharray: 3 2; }
-.span { stroke: none; }
+.span, .guard { stroke: none; }
+.guard { fill-opacity: 0.25; }
 .through { stroke-width: 1; stroke-dasharray: 1 4; }
 """
 

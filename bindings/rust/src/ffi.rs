@@ -97,4 +97,5 @@ extern "C" {
     pub fn nuthkolla_default_config() -> crate::PlaneGuidanceConfig;
     pub fn nuthkolla_validate(config: crate::PlaneGuidanceConfig) -> u32;
     pub fn nuthkolla_flight_mode(requested: u32) -> u32;
+    pub fn nuthkolla_stall_guard(underspeed: u32) -> u32;
 }

@@ -176,6 +176,12 @@ impl PlaneGuidance {
         Some(FlightModeReport { mode: FlightMode::Plane, refusal: (refusal != 0).then_some(ModeRefusal::Unsupported) })
     }
 
+    /// Whether the stall guard stands: then it is why an energy step's thrust is at its top.
+    pub fn stall_guard(&self) -> bool {
+        // Safety: it takes a number.
+        unsafe { ffi::nuthkolla_stall_guard(self.held.tecs.underspeed) != 0 }
+    }
+
     /// The guidance as the library holds it.
     pub fn held(&self) -> &ffi::Guidance {
         &self.held

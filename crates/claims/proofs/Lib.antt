@@ -8,4 +8,6 @@ pub mod Validity
 pub mod Undone
 mod Spans
 pub mod Clamps
+pub mod StallGuard
 mod Variants
+mod GuardVariants

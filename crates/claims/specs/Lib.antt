@@ -5,3 +5,4 @@ pub mod Clamps
 pub mod Demand3
 pub mod Validity
 pub mod Undone
+pub mod StallGuard

@@ -114,6 +114,10 @@ takenBack g = cond (flag (g .former .kept)) (record { refusal = 0; guidance = re
 unfoldable pub flightMode : PlaneGuidance → FlightModeReport
 flightMode g = record { mode = Mode.Plane; refusal = cond (flag (g .requested)) Why.None Why.Unsupported }
 
+-- K12's report, whether the stall guard stands: underspeed
+abbrev pub stallGuard : PlaneGuidance → Bool
+stallGuard g = flag (g .tecs .underspeed)
+
 -- ---- commands other than a waypoint
 
 -- sticks to bank and pitch

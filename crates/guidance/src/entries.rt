@@ -212,6 +212,13 @@ impl PlaneGuidance {
         }
     }
 
+    // Whether the stall guard stands: underspeed, as the energy state has it.
+    pub fn stall_guard(self) -> bool
+        ensures { λ r. ⌜ r ≡ spec.stallGuard self ⌝ }
+    {
+        self.tecs.underspeed != 0
+    }
+
     // The configuration in force.
     pub fn config(self) -> PlaneGuidanceConfig
         ensures { λ r. ⌜ r ≡ self .config ⌝ }

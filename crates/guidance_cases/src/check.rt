@@ -141,11 +141,22 @@ fn created(row: &[u8; 212], g: PlaneGuidance) -> Checked {
     }
 }
 
+// The stall guard stands where the oracle's stored underspeed does.
+fn guard_right(row: &[u8; 212], stands: bool) -> bool {
+    if stands {
+        word(row, 52) != 0
+    } else {
+        word(row, 52) == 0
+    }
+}
+
 fn primed(row: &[u8; 212], g: PlaneGuidance) -> Checked {
     let h = g.prime();
     Checked {
         guidance: h,
-        right: state_right(row, h) & mode_right(row, h.flight_mode()),
+        right: state_right(row, h)
+            & mode_right(row, h.flight_mode())
+            & guard_right(row, h.stall_guard()),
     }
 }
 
@@ -186,7 +197,10 @@ fn guided(row: &[u8; 212], g: PlaneGuidance) -> Checked {
     let answer = o.answer;
     Checked {
         guidance: h,
-        right: answer_right(row, answer) & state_right(row, h) & mode_right(row, h.flight_mode()),
+        right: answer_right(row, answer)
+            & state_right(row, h)
+            & mode_right(row, h.flight_mode())
+            & guard_right(row, h.stall_guard()),
     }
 }
 
