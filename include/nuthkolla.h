@@ -26,6 +26,11 @@
  *   2  the time step is not finite or not above 0
  *   3  a waypoint's pitch cap is below 0 (-0 passes, NaN means no cap)
  *   4  a waypoint's pitch, thrust or a number it would store would not be finite
+ * of a drawn path:
+ * 255  its call is no waypoint
+ *   7  its regime is above 1
+ *  12  the step count is 0 or above 600
+ *   8  the buffer has fewer than 3 numbers a step
  * of a writer:
  *   7  a kind is above 6, or a regime above 1
  *   8  a buffer has too few bytes from the named place, or the place is past its end
@@ -222,6 +227,25 @@ nuthkolla_place nuthkolla_write_config(uint8_t *out, size_t length, size_t at, n
 
 /* Reads a configuration's record from the place `at` on, without judging its numbers. Refusals 5, 6. */
 nuthkolla_config_read nuthkolla_read_config(const uint8_t *bytes, size_t length, size_t at);
+
+/* ---- the turn to come */
+
+enum { NUTHKOLLA_PATH_STEPS = 600 };
+
+typedef struct nuthkolla_path {
+    uint32_t refusal; /* 0, or the refusal's number: nothing is drawn */
+    uint32_t reason;  /* of the step that stopped: its refusal (2, 3, 4), 0 for a number that is not finite */
+    size_t drawn;     /* how many points were drawn */
+    size_t stopped;   /* 0, or the step at which the path stopped, counted from 1 */
+} nuthkolla_path;
+
+/* Draws the path of a waypoint call: the guidance repeated over a simple plane, a point for each of `steps` steps (1 to 600).
+ * A point is three numbers, north, east and height in metres, one after the other in `out`; `length` counts its floats. The path
+ * stops at the first step that is refused, or whose position or velocity is not finite: nothing is drawn for it. Numbers of
+ * `out` behind the last point are kept, and so are all where the path is refused (255, 7, 12, 8, in this order). The guidance is
+ * passed by value, so that the caller's is not changed; it can be the one that nuthkolla_run is about to get this call on, and
+ * the first point then starts from that call's own answer. */
+nuthkolla_path nuthkolla_draw_path(nuthkolla_guidance guidance, nuthkolla_call call, size_t steps, float *out, size_t length);
 
 /* ---- without a guidance or a record */
 

@@ -103,11 +103,17 @@ int main(void)
     AT(nuthkolla_config_read, refusal);
     AT(nuthkolla_config_read, next);
     AT(nuthkolla_config_read, config);
+    SIZE(nuthkolla_path);
+    AT(nuthkolla_path, refusal);
+    AT(nuthkolla_path, reason);
+    AT(nuthkolla_path, drawn);
+    AT(nuthkolla_path, stopped);
     NUMBER(NUTHKOLLA_CALL);
     NUMBER(NUTHKOLLA_SET_CONFIG);
     NUMBER(NUTHKOLLA_NEW);
     NUMBER(NUTHKOLLA_TAKE_BACK);
     NUMBER(NUTHKOLLA_CALL_BYTES);
     NUMBER(NUTHKOLLA_CONFIG_BYTES);
+    NUMBER(NUTHKOLLA_PATH_STEPS);
     return 0;
 }

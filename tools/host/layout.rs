@@ -1,6 +1,6 @@
 //! The Rust wrapper's sizes, places and numbers under the header's names, as layout.c prints the header's.
 
-use nuthkolla::{ffi, PlaneGuidanceConfig, TecsConfig, Vec3, CALL_BYTES, CONFIG_BYTES};
+use nuthkolla::{ffi, PlaneGuidanceConfig, TecsConfig, Vec3, CALL_BYTES, CONFIG_BYTES, PATH_STEPS};
 use std::mem::{offset_of, size_of, size_of_val, zeroed};
 
 macro_rules! size {
@@ -119,10 +119,16 @@ fn main() {
     at!("nuthkolla_config_read.refusal", ffi::ConfigRead, refusal);
     at!("nuthkolla_config_read.next", ffi::ConfigRead, next);
     at!("nuthkolla_config_read.config", ffi::ConfigRead, config);
+    size!("nuthkolla_path", ffi::Path);
+    at!("nuthkolla_path.refusal", ffi::Path, refusal);
+    at!("nuthkolla_path.reason", ffi::Path, reason);
+    at!("nuthkolla_path.drawn", ffi::Path, drawn);
+    at!("nuthkolla_path.stopped", ffi::Path, stopped);
     println!("NUTHKOLLA_CALL {}", ffi::CALL);
     println!("NUTHKOLLA_SET_CONFIG {}", ffi::SET_CONFIG);
     println!("NUTHKOLLA_NEW {}", ffi::NEW);
     println!("NUTHKOLLA_TAKE_BACK {}", ffi::TAKE_BACK);
     println!("NUTHKOLLA_CALL_BYTES {}", CALL_BYTES);
     println!("NUTHKOLLA_CONFIG_BYTES {}", CONFIG_BYTES);
+    println!("NUTHKOLLA_PATH_STEPS {}", PATH_STEPS);
 }

@@ -21,14 +21,15 @@ NOTE_WIDTH = 76  # letters
 class Ground:
     """The map's scales, in a box (left, top, right, bottom) of the page: equal metres east and north."""
 
-    def __init__(self, flown, configuration, box):
-        self.flown, self.box = flown, box
+    def __init__(self, flown, configuration, box, ahead=None):
+        self.flown, self.box, self.ahead = flown, box, ahead
         self.aimed, self.radius = aims(flown), value(configuration["loiter_radius_m"])
         places = [m.place for m in flown if m.place]
         corners = []
         for at, leg in self.aimed:
             reach = 0 if leg else self.radius
             corners += [(at[0] + side, at[1] + side) for side in (-reach, reach)]
+        corners += ahead.places if ahead else []
         self.scale_to(places or corners or [(0.0, 0.0)], corners)
 
     def scale_to(self, places, corners):
@@ -199,11 +200,25 @@ def draw_ends(group, ground):
             label(group, f"ink small over{css}", x + aside, y + 4, f"{word}: call {m.number}")
 
 
+def draw_ahead(group, ground):
+    """The turn to come at a call, from its place on, with a head at its end."""
+    points = [ground(place) for place in ground.ahead.places if ground.within(place)] if ground.ahead else []
+    if len(points) < 2:
+        return
+    path(group, "ahead", points)
+    (x, y), (after_x, after_y) = points[-2:]
+    length = math.hypot(after_x - x, after_y - y)
+    if length > 0:
+        head(group, "tip", (after_x, after_y), ((after_x - x) / length, (after_y - y) / length), 12)
+    label(group, "ink small over", *points[0], f"ahead of call {ground.ahead.number}")
+
+
 def draw_map(page, ground):
     draw_map_axes(page, ground)
     group = clipped(page, "map", ground.box)
     draw_aims(group, ground)
     draw_track(group, ground)
+    draw_ahead(group, ground)
     draw_aim_numbers(group, ground)
     draw_ends(group, ground)
     frame(page, "frame", ground.box)
@@ -269,6 +284,8 @@ def draw_notes(page, ground, stopped, left, top):
     group = add(page, "g", "told", **told_counts(ground))
     notes = map_notes(ground)
     heads = [("The replay stopped", [stopped])] if stopped else []
+    if ground.ahead:
+        heads.append((f"The turn to come at call {ground.ahead.number}", [ground.ahead.words]))
     for title, lines in heads + ([("Not on the map", notes)] if notes else []):
         label(group, "ink name", left, top, title)
         for note in lines:

@@ -36,11 +36,12 @@ def stopped(ending):
 # ---- the legend
 
 
-def legend_items(flown):
+def legend_items(flown, ahead):
     """What each sign means: how it is drawn beside a place, and its words."""
     numbers = sorted({m.answer.refusal for m in flown if m.refused})
     reasons = "; ".join(f"{n}: {REFUSED[n]}" for n in numbers)
-    return [
+    to_come = [(lambda g, x, y: line(g, "ahead", x, y, x + 28, y), "the turn to come")] if ahead else []
+    return to_come + [
         (lambda g, x, y: add(g, "circle", "energy", cx=x + 14, cy=y, r=2.5), "waypoint call, energy law"),
         (lambda g, x, y: add(g, "circle", "fallback", cx=x + 14, cy=y, r=3), "fallback: no usable airspeed"),
         (lambda g, x, y: square(g, "hold", x + 14, y, 3.5), "hold: trim pitch, cruise thrust (grey)"),
@@ -54,10 +55,10 @@ def legend_items(flown):
     ]
 
 
-def draw_legend(page, flown, top):
+def draw_legend(page, flown, ahead, top):
     """Rows of signs and words from a place down; the place of the last row."""
     x, y = MAP[0], top
-    for draw, words in legend_items(flown):
+    for draw, words in legend_items(flown, ahead):
         width = 38 + LETTER * len(words)
         if x > MAP[0] and x + width > WIDTH - 20:
             x, y = MAP[0], y + 26
@@ -76,7 +77,7 @@ def plain_text(text):
     return printable.encode("utf-8", "replace").decode("utf-8")
 
 
-def draw_page(title, configuration, flown, ending):
+def draw_page(title, configuration, flown, ending, ahead=None):
     """The whole page, as an XML element."""
     title = plain_text(title)
     page = ET.Element("svg", {"xmlns": "http://www.w3.org/2000/svg", "role": "img"})
@@ -86,11 +87,11 @@ def draw_page(title, configuration, flown, ending):
     paper = add(page, "rect", "paper", width=WIDTH)
     label(page, "ink title", MAP[0], 40, title)
     label(page, "ink", MAP[0], 66, summary(flown))
-    ground = Ground(flown, configuration, MAP)
+    ground = Ground(flown, configuration, MAP, ahead)
     draw_map(page, ground)
     noted = draw_notes(page, ground, stopped(ending), MAP[0], MAP[3] + 70)
     lowest = draw_over_time(page, Column(flown, STRIPS_LEFT, STRIPS_RIGHT), configuration, TOP)
-    height = draw_legend(page, flown, max(lowest + 66, noted + 10)) + 30
+    height = draw_legend(page, flown, ahead, max(lowest + 66, noted + 10)) + 30
     paper.set("height", str(height))
     page.set("viewBox", f"0 0 {WIDTH} {height}")
     page.set("width", str(WIDTH))

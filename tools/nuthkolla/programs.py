@@ -6,6 +6,7 @@ import subprocess
 
 ROOT = pathlib.Path(__file__).resolve().parent.parent.parent
 DESK = ROOT / "target/bin/desk"
+PATHS = ROOT / "target/host/paths"
 # The environment may name another build.
 ORACLE = pathlib.Path(os.environ.get("ORACLE", ROOT / "target/oracle/oracle"))
 
@@ -40,6 +41,15 @@ def desk_command():
             return oracle_command("desk")
         except Missing as also:
             raise Missing(f"{missing}, and {also} (./desk builds the desk program)") from None
+
+
+def path_command(call, steps):
+    """What draws the path at a call: the archive behind tools/host/paths.c, or the oracle in its place."""
+    if PATHS.is_file():
+        return [str(PATHS), "at", str(call), str(steps)]
+    if ORACLE.is_file():
+        return [str(ORACLE), "path-at", str(call), str(steps)]
+    raise Missing("target/host/paths is not built (tools/test/built/60-host builds it), and target/oracle/oracle is not either")
 
 
 def run(command, data):

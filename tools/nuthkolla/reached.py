@@ -23,6 +23,13 @@ RECORDS = {
     **{f"refused {number}": f" refused {number}\n" for number in (5, 6, 7)},
 }
 
+PATHS = {
+    "whole": " whole",
+    "stopped, not finite": " not-finite",
+    **{f"stopped, refused {number}": f" refused {number}" for number in (2, 3, 4)},
+    **{f"refused {number}": f" refused {number}" for number in (8, 12)},
+}
+
 # The oracle's sections of counts, with every name that must be met.
 SECTIONS = {
     "answers": [name for name in ANSWERS if not name.startswith(("set", "back", "stopped", "refused 1"))],

@@ -12,6 +12,7 @@ COLOURS = {
     "fallback": ("#8a5300", "#ffc46b"),
     "hold": ("#6b3fa0", "#cbaeff"),
     "refused": ("#b3261e", "#ff8f85"),
+    "ahead": ("#a3195b", "#ff9ccf"),
 }
 
 # Classes, and the colours of their lines and of what they fill.
@@ -22,6 +23,7 @@ STROKES = {
     ".fallback": "fallback",
     ".hold": "hold",
     ".refused": "refused",
+    ".ahead": "ahead",
     ".frame, .tick, .ring": "soft",
     ".limit": "ink",
     ".over": "paper",
@@ -32,6 +34,7 @@ FILLS = {
     ".soft": "soft",
     ".energy, .way": "line",
     ".head": "aim",
+    ".tip": "ahead",
     ".fallback": "paper",
     ".hold": "hold",
     ".span": "grid",
@@ -58,10 +61,11 @@ text { font-family: "DejaVu Sans", Verdana, Arial, sans-serif; font-size: 13px; 
 .over { paint-order: stroke; stroke-width: 3; stroke-linejoin: round; }
 .middle { text-anchor: middle; }
 .end { text-anchor: end; }
-.frame, .grid, .tick, .aim, .line, .limit, .demand, .mark, .place, .ring { fill: none; }
+.frame, .grid, .tick, .aim, .line, .limit, .demand, .mark, .place, .ring, .ahead { fill: none; }
 .frame, .grid, .tick { stroke-width: 1; }
 .line { stroke-width: 1.6; stroke-linejoin: round; }
 .track { stroke-width: 1; }
+.ahead { stroke-width: 2; stroke-dasharray: 4 2; stroke-linejoin: round; }
 .aim { stroke-width: 1.6; stroke-dasharray: 9 4; }
 .centre { stroke-dasharray: none; }
 .limit { stroke-width: 1.2; stroke-dasharray: 3 3; }

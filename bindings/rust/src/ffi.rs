@@ -84,6 +84,15 @@ pub struct ConfigRead {
     pub config: crate::PlaneGuidanceConfig,
 }
 
+#[repr(C)]
+#[derive(Clone, Copy, Debug)]
+pub struct Path {
+    pub refusal: u32,
+    pub reason: u32,
+    pub drawn: usize,
+    pub stopped: usize,
+}
+
 pub const CALL: u32 = 0;
 pub const SET_CONFIG: u32 = 1;
 pub const NEW: u32 = 2;
@@ -94,6 +103,7 @@ extern "C" {
     pub fn nuthkolla_write_call(out: *mut u8, length: usize, at: usize, call: Call) -> Place;
     pub fn nuthkolla_write_config(out: *mut u8, length: usize, at: usize, config: crate::PlaneGuidanceConfig) -> Place;
     pub fn nuthkolla_read_config(bytes: *const u8, length: usize, at: usize) -> ConfigRead;
+    pub fn nuthkolla_draw_path(guidance: Guidance, call: Call, steps: usize, out: *mut f32, length: usize) -> Path;
     pub fn nuthkolla_default_config() -> crate::PlaneGuidanceConfig;
     pub fn nuthkolla_validate(config: crate::PlaneGuidanceConfig) -> u32;
     pub fn nuthkolla_flight_mode(requested: u32) -> u32;

@@ -29,6 +29,23 @@ pub const CALL_BYTES: usize = 86;
 /// The greatest length of a configuration record.
 pub const CONFIG_BYTES: usize = 137;
 
+/// The greatest number of steps of a drawn path.
+pub const PATH_STEPS: usize = 600;
+
+/// A drawn path: how many points, and where it stopped, if it did.
+#[derive(Clone, Copy, Debug, PartialEq)]
+pub struct DrawnPath {
+    pub drawn: usize,
+    pub stopped: Option<PathStop>,
+}
+
+/// The step at which a path stopped, counted from 1, and its refusal; `None` for a number that is not finite.
+#[derive(Clone, Copy, Debug, PartialEq)]
+pub struct PathStop {
+    pub step: usize,
+    pub refusal: Option<Refusal>,
+}
+
 /// A call as its record carries it.
 #[derive(Clone, Copy, Debug, PartialEq)]
 pub enum Call {
@@ -90,6 +107,44 @@ impl PlaneGuidance {
         let call = Call::Guide { dt, regime, input: *input, state: *state, pitch_cap_rad };
         let answer = self.call(&call)?;
         Ok(answer.setpoint.expect("an accepted guide call answers a setpoint"))
+    }
+
+    /// Draws the turn to come: the path of a waypoint call, of `steps` steps, as north, east and height into `out`. The guidance
+    /// is not changed.
+    ///
+    /// ```
+    /// # use nuthkolla::*;
+    /// let guidance = PlaneGuidance::new(PlaneGuidanceConfig::default())?;
+    /// let command = WaypointCommand { velocity_mps: Some(Vec2::new(16.0, 0.0)), ..Default::default() };
+    /// let state = VehicleState { velocity_mps: Vec3::new(0.0, 16.0, 0.0), ..Default::default() };
+    /// let mut points = [0.0; 3 * 20];
+    /// let path = guidance.draw_path(0.5, FlightRegime::Plane, &command, &state, None, 20, &mut points)?;
+    /// assert_eq!(path, DrawnPath { drawn: 20, stopped: None });
+    /// assert!(points[3 * 19] > points[0], "it comes round to the north");
+    /// # Ok::<(), Refusal>(())
+    /// ```
+    ///
+    /// # Errors
+    ///
+    /// Refusals 12 and 8. A step that is refused ends the path.
+    #[allow(clippy::too_many_arguments)]
+    pub fn draw_path(
+        &self,
+        dt: f32,
+        regime: FlightRegime,
+        command: &WaypointCommand,
+        state: &VehicleState,
+        pitch_cap_rad: Option<f32>,
+        steps: usize,
+        out: &mut [f32],
+    ) -> Result<DrawnPath, Refusal> {
+        let call = Call::Guide { dt, regime, input: ControlInput::Waypoint(*command), state: *state, pitch_cap_rad };
+        // Safety: the buffer is borrowed for the call.
+        let path = unsafe { ffi::nuthkolla_draw_path(self.held, numbers_of(&call), steps, out.as_mut_ptr(), out.len()) };
+        Refusal::of(path.refusal)?;
+        let refusal = Refusal::of(path.reason).err();
+        let stopped = (path.stopped != 0).then_some(PathStop { step: path.stopped, refusal });
+        Ok(DrawnPath { drawn: path.drawn, stopped })
     }
 
     /// Clears the navigation loops: integrals, demands, and underspeed.

@@ -375,8 +375,10 @@ pub enum Refusal {
     Map,
     /// 7: a kind is above 6, or a regime above 1.
     Kind,
-    /// 8: the buffer has too few bytes from the place on.
+    /// 8: the buffer has too few bytes from the place on, or too few numbers for a path.
     Room,
+    /// 12: a path's step count is 0 or above 600.
+    Steps,
     /// 14: no change is left to take back.
     NothingKept,
 }
@@ -393,6 +395,7 @@ impl Refusal {
             Refusal::Map => 6,
             Refusal::Kind => 7,
             Refusal::Room => 8,
+            Refusal::Steps => 12,
             Refusal::NothingKept => 14,
         }
     }
@@ -407,6 +410,7 @@ impl Refusal {
             5 => Refusal::Short,
             6 => Refusal::Map,
             7 => Refusal::Kind,
+            12 => Refusal::Steps,
             14 => Refusal::NothingKept,
             _ => Refusal::Room,
         })

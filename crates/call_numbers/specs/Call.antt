@@ -11,6 +11,7 @@ use Rattle.laws.specs.declared.types.FlightRegime.{FlightRegime}
 use Rattle.laws.specs.declared.types.FlightRegime.the-variants.{Copter, Plane}
 use Rattle.records.specs.declared.call.Call.{Call}
 use Rattle.records.specs.declared.call.Call.the-variants.{Prime, Attitude, Rate, Waypoint, AbsoluteAttitude, Land, AbsoluteRate}
+use Rattle.path.specs.declared.model.WaypointCall.{WaypointCall}
 use Rattle.call_numbers.specs.declared.CallNumbers.{CallNumbers}
 
 -- 0 copter, else plane
@@ -24,22 +25,27 @@ optionOf flag x = cond (eqb flag 0) number.None (number.Some x)
 unfoldable pub legOf : ℕ → Float → Float → OptionVec2
 legOf flag north east = cond (eqb flag 0) leg.None (leg.Some (record { x = north; y = east }))
 
+unfoldable pub waypointCall : CallNumbers → WaypointCall
+waypointCall k = record {
+  dt = k .dt;
+  regime = regimeOf (k .regime);
+  command = record {
+    «position_m» = record { x = k .«waypoint_north_m»; y = k .«waypoint_east_m» };
+    «velocity_mps» = legOf (k .«has_leg») (k .«leg_north_mps») (k .«leg_east_mps»);
+    «altitude_m» = k .«altitude_m»;
+    «cruise_speed_mps» = k .«cruise_speed_mps»;
+  };
+  state = record {
+    «position_m» = k .«position_m»;
+    «velocity_mps» = k .«velocity_mps»;
+    «roll_rad» = k .«roll_rad»;
+    «airspeed_mps» = optionOf (k .«has_airspeed») (k .«airspeed_mps»);
+  };
+  cap = optionOf (k .«has_cap») (k .«pitch_cap_rad»);
+}
+
 unfoldable pub waypointOf : CallNumbers → Call
-waypointOf k =
-    Waypoint (regimeOf (k .regime)) (k .dt)
-    (record {
-      «position_m» = record { x = k .«waypoint_north_m»; y = k .«waypoint_east_m» };
-      «velocity_mps» = legOf (k .«has_leg») (k .«leg_north_mps») (k .«leg_east_mps»);
-      «altitude_m» = k .«altitude_m»;
-      «cruise_speed_mps» = k .«cruise_speed_mps»;
-    })
-    (record {
-      «position_m» = k .«position_m»;
-      «velocity_mps» = k .«velocity_mps»;
-      «roll_rad» = k .«roll_rad»;
-      «airspeed_mps» = optionOf (k .«has_airspeed») (k .«airspeed_mps»);
-    })
-    (optionOf (k .«has_cap») (k .«pitch_cap_rad»))
+waypointOf k = let w = waypointCall k in Waypoint (w .regime) (w .dt) (w .command) (w .state) (w .cap)
 
 -- by kind, as a record has it; command numbers in the order `guide_capped` reads them
 unfoldable pub fromNumbers : CallNumbers → Call

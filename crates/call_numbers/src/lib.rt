@@ -10,6 +10,7 @@ use laws::types::RateCommand;
 use laws::types::Vec3;
 use laws::types::VehicleState;
 use laws::types::WaypointCommand;
+use path::model::WaypointCall;
 use records::call::Call;
 ghost use mathlib.Core.Path.{_≡_};
 ghost use Rattle.call_numbers.specs.Call as spec;
@@ -41,7 +42,7 @@ pub struct CallNumbers {
     pub pitch_cap_rad: f32,
 }
 
-fn regime_of(n: u32) -> FlightRegime
+pub fn regime_of(n: u32) -> FlightRegime
     ensures { λ r. ⌜ r ≡ spec.regimeOf n ⌝ }
 {
     if n == 0 {
@@ -51,7 +52,7 @@ fn regime_of(n: u32) -> FlightRegime
     }
 }
 
-fn option_of(flag: u32, x: f32) -> OptionF32
+pub fn option_of(flag: u32, x: f32) -> OptionF32
     ensures { λ r. ⌜ r ≡ spec.optionOf flag x ⌝ }
 {
     if flag == 0 {
@@ -71,8 +72,9 @@ fn leg_of(flag: u32, north: f32, east: f32) -> OptionVec2
     }
 }
 
-fn waypoint_of(k: CallNumbers) -> Call
-    ensures { λ r. ⌜ r ≡ spec.waypointOf k ⌝ }
+// A waypoint call, whatever the kind says.
+pub fn waypoint_call_of(k: CallNumbers) -> WaypointCall
+    ensures { λ r. ⌜ r ≡ spec.waypointCall k ⌝ }
 {
     let regime = regime_of(k.regime);
     let velocity_mps = leg_of(k.has_leg, k.leg_north_mps, k.leg_east_mps);
@@ -80,9 +82,9 @@ fn waypoint_of(k: CallNumbers) -> Call
     let cap = option_of(k.has_cap, k.pitch_cap_rad);
     let position_m = k.position_m;
     let ground_mps = k.velocity_mps;
-    Call::Waypoint {
-        regime,
+    WaypointCall {
         dt: k.dt,
+        regime,
         command: WaypointCommand {
             position_m: Vec2 {
                 x: k.waypoint_north_m,
@@ -98,6 +100,23 @@ fn waypoint_of(k: CallNumbers) -> Call
             roll_rad: k.roll_rad,
             airspeed_mps,
         },
+        cap,
+    }
+}
+
+fn waypoint_of(k: CallNumbers) -> Call
+    ensures { λ r. ⌜ r ≡ spec.waypointOf k ⌝ }
+{
+    let w = waypoint_call_of(k);
+    let regime = w.regime;
+    let command = w.command;
+    let state = w.state;
+    let cap = w.cap;
+    Call::Waypoint {
+        regime,
+        dt: w.dt,
+        command,
+        state,
         cap,
     }
 }

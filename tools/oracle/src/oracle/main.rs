@@ -12,6 +12,7 @@ mod lateral;
 mod limits;
 mod numbers;
 mod original;
+mod path;
 mod places;
 mod record;
 mod tally;
@@ -223,6 +224,11 @@ fn main() {
         }
         Some("count") if !rest.is_empty() => output(count(rest).as_bytes()),
         Some("original") => output(original::beside(&input()).as_bytes()),
+        Some("paths") if rest.len() == 1 => output(path::lines(&input(), number(rest, 0) as usize).as_bytes()),
+        Some("path-at") if rest.len() == 2 => match path::at_call(&input(), number(rest, 0) as usize, number(rest, 1) as usize) {
+            Some(text) => output(text.as_bytes()),
+            None => usage("the recording has no such waypoint call"),
+        },
         Some("trigonometry") => output(trigonometry::report().as_bytes()),
         Some("sides") => output(trigonometry::sides().as_bytes()),
         Some("count-files") => output(count_files(rest).as_bytes()),

@@ -1,0 +1,2 @@
+-- The drawn path for a host.
+pub mod Draw

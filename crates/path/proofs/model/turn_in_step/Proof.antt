@@ -1,0 +1,12 @@
+use Rattle.path.specs.Model.{turnInStep}
+use Rattle.path.proofs.model.turn_in_step.Statement.{statement}
+use Rattle.path.proofs.model.turn_in_step.Tie as tie
+
+returns : tie.Need-returns
+unfolding turnInStep
+returns c =
+    let c1 = c .before in
+    rw (c .clamp .ensures, c1 .turn-rate .ensures)
+
+pub turn-in-step-spec : {M : Type 1} → statement M
+turn-in-step-spec = tie.close (tie.spec (λ c κs. tt) (λ c κs. tt) returns)
