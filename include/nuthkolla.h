@@ -26,6 +26,8 @@
  *   2  the time step is not finite or not above 0
  *   3  a waypoint's pitch cap is below 0 (-0 passes, NaN means no cap)
  *   4  a waypoint's pitch, thrust or a number it would store would not be finite
+ * of a recording, after those of its records and its configuration:
+ *   9  it has more than 4,096 calls
  * of a drawn path:
  * 255  its call is no waypoint
  *   7  its regime is above 1
@@ -227,6 +229,21 @@ nuthkolla_place nuthkolla_write_config(uint8_t *out, size_t length, size_t at, n
 
 /* Reads a configuration's record from the place `at` on, without judging its numbers. Refusals 5, 6. */
 nuthkolla_config_read nuthkolla_read_config(const uint8_t *bytes, size_t length, size_t at);
+
+/* ---- recordings: a configuration's record and the records of up to 4,096 calls */
+
+typedef struct nuthkolla_compaction {
+    uint32_t refusal; /* 0, or the refusal's number: 5, 6, 7 of a record, 1 of the configuration, 9 for more than 4,096 calls */
+    uint32_t field;   /* of refusal 1 the failing field's number, else 0 */
+    uint32_t call;    /* the number, from 1, of the call whose record was refused; 0 for the configuration's */
+    size_t length;    /* the new length; 0 where the recording was refused */
+} nuthkolla_compaction;
+
+/* Compacts a recording, all `length` bytes, in place: drops every refused call, and every hold unless the last
+ * accepted guide or prime call before it was a fallback, closes the gaps and clears the bytes past the new length.
+ * Records that stay keep their bytes, and replaying them gives each call its answer again. A recording that is
+ * refused is kept: the refusal is the first that the desk program would meet. */
+nuthkolla_compaction nuthkolla_compact(uint8_t *bytes, size_t length);
 
 /* ---- the turn to come */
 

@@ -103,6 +103,11 @@ int main(void)
     AT(nuthkolla_config_read, refusal);
     AT(nuthkolla_config_read, next);
     AT(nuthkolla_config_read, config);
+    SIZE(nuthkolla_compaction);
+    AT(nuthkolla_compaction, refusal);
+    AT(nuthkolla_compaction, field);
+    AT(nuthkolla_compaction, call);
+    AT(nuthkolla_compaction, length);
     SIZE(nuthkolla_path);
     AT(nuthkolla_path, refusal);
     AT(nuthkolla_path, reason);

@@ -119,6 +119,11 @@ fn main() {
     at!("nuthkolla_config_read.refusal", ffi::ConfigRead, refusal);
     at!("nuthkolla_config_read.next", ffi::ConfigRead, next);
     at!("nuthkolla_config_read.config", ffi::ConfigRead, config);
+    size!("nuthkolla_compaction", ffi::Compaction);
+    at!("nuthkolla_compaction.refusal", ffi::Compaction, refusal);
+    at!("nuthkolla_compaction.field", ffi::Compaction, field);
+    at!("nuthkolla_compaction.call", ffi::Compaction, call);
+    at!("nuthkolla_compaction.length", ffi::Compaction, length);
     size!("nuthkolla_path", ffi::Path);
     at!("nuthkolla_path.refusal", ffi::Path, refusal);
     at!("nuthkolla_path.reason", ffi::Path, reason);

@@ -86,6 +86,15 @@ pub struct ConfigRead {
 
 #[repr(C)]
 #[derive(Clone, Copy, Debug)]
+pub struct Compaction {
+    pub refusal: u32,
+    pub field: u32,
+    pub call: u32,
+    pub length: usize,
+}
+
+#[repr(C)]
+#[derive(Clone, Copy, Debug)]
 pub struct Path {
     pub refusal: u32,
     pub reason: u32,
@@ -103,6 +112,7 @@ extern "C" {
     pub fn nuthkolla_write_call(out: *mut u8, length: usize, at: usize, call: Call) -> Place;
     pub fn nuthkolla_write_config(out: *mut u8, length: usize, at: usize, config: crate::PlaneGuidanceConfig) -> Place;
     pub fn nuthkolla_read_config(bytes: *const u8, length: usize, at: usize) -> ConfigRead;
+    pub fn nuthkolla_compact(bytes: *mut u8, length: usize) -> Compaction;
     pub fn nuthkolla_draw_path(guidance: Guidance, call: Call, steps: usize, out: *mut f32, length: usize) -> Path;
     pub fn nuthkolla_default_config() -> crate::PlaneGuidanceConfig;
     pub fn nuthkolla_validate(config: crate::PlaneGuidanceConfig) -> u32;

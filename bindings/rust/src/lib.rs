@@ -319,6 +319,31 @@ pub fn read_config(record: &[u8], at: usize) -> Result<(PlaneGuidanceConfig, usi
     Ok((read.config, read.next))
 }
 
+/// A recording that was refused: by which refusal, at which call, counted from 1; 0 is the configuration.
+#[derive(Clone, Copy, Debug, PartialEq)]
+pub struct RecordingRefused {
+    pub refusal: Refusal,
+    pub call: u32,
+}
+
+/// Compacts a recording, all of `bytes`, in place: drops the calls that demand 3 allows to be struck, closes the gaps,
+/// clears what is left and gives the new length. Replaying the short recording gives each remaining call its answer again.
+///
+/// # Errors
+///
+/// Refusals 5, 6 and 7 of a record, 1 of the configuration, 9 for more than 4,096 calls; the bytes are kept.
+pub fn compact(bytes: &mut [u8]) -> Result<usize, RecordingRefused> {
+    // Safety: the buffer is borrowed for the call.
+    let done = unsafe { ffi::nuthkolla_compact(bytes.as_mut_ptr(), bytes.len()) };
+    let refused = |refusal| RecordingRefused { refusal, call: done.call };
+    if done.refusal == 1 {
+        let (config, _) = read_config(bytes, 0).map_err(refused)?;
+        return Err(refused(Refusal::Config(InvalidConfig::of(done.field, &config))));
+    }
+    Refusal::of(done.refusal).map_err(refused)?;
+    Ok(done.length)
+}
+
 fn numbers_of(call: &Call) -> ffi::Call {
     let Call::Guide { dt, regime, input, state, pitch_cap_rad } = call else {
         return ffi::Call { regime: 1, ..Default::default() };

@@ -377,6 +377,8 @@ pub enum Refusal {
     Kind,
     /// 8: the buffer has too few bytes from the place on, or too few numbers for a path.
     Room,
+    /// 9: a recording has more than 4,096 calls.
+    Calls,
     /// 12: a path's step count is 0 or above 600.
     Steps,
     /// 14: no change is left to take back.
@@ -395,6 +397,7 @@ impl Refusal {
             Refusal::Map => 6,
             Refusal::Kind => 7,
             Refusal::Room => 8,
+            Refusal::Calls => 9,
             Refusal::Steps => 12,
             Refusal::NothingKept => 14,
         }
@@ -410,6 +413,7 @@ impl Refusal {
             5 => Refusal::Short,
             6 => Refusal::Map,
             7 => Refusal::Kind,
+            9 => Refusal::Calls,
             12 => Refusal::Steps,
             14 => Refusal::NothingKept,
             _ => Refusal::Room,

@@ -8,7 +8,7 @@ use crate::record::{self, Regime, bits};
 
 /// The desk program reads this many calls.
 pub const MOST_CALLS: usize = 4096;
-const TOO_MANY_CALLS: u32 = 9;
+pub const TOO_MANY_CALLS: u32 = 9;
 
 /// What is printed: lines for the answers, for the state, or both in turn.
 #[derive(Clone, Copy, PartialEq)]

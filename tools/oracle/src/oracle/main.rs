@@ -2,6 +2,7 @@
 //! what document 01 adds. See tools/oracle/README.md for the commands.
 
 mod codec;
+mod compact;
 mod configuration;
 mod desk;
 mod flown;
@@ -54,6 +55,19 @@ fn lines(form: Form, options: &[String]) -> String {
     }
     let texts = parts(&bytes).into_iter().enumerate();
     texts.map(|(n, part)| format!("input {}\n{}", n + 1, desk::lines(part, form, print))).collect()
+}
+
+/// Recordings compacted: one, or with `--many` each of many, under a line with its number.
+fn compacted(options: &[String]) -> String {
+    let bytes = input();
+    match options.first().map(String::as_str) {
+        None => compact::text(&bytes),
+        Some("--many") => {
+            let texts = parts(&bytes).into_iter().enumerate();
+            texts.map(|(n, part)| format!("input {}\n{}", n + 1, compact::text(part))).collect()
+        }
+        Some(other) => usage(&format!("unknown option {other}")),
+    }
 }
 
 /// Many inputs, each after its length, four bytes, low byte first.
@@ -203,6 +217,7 @@ fn main() {
     match arguments.first().map(String::as_str) {
         Some("desk") => output(lines(Form::Recording, rest).as_bytes()),
         Some("list") => output(lines(Form::List, rest).as_bytes()),
+        Some("compact") => output(compacted(rest).as_bytes()),
         Some("rewrite") => {
             let (bytes, end) = desk::rewrite(&input());
             output(&bytes);

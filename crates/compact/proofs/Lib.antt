@@ -1,0 +1,2 @@
+-- Laws of the program compact.
+pub mod Law

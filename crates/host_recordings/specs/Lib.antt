@@ -1,0 +1,2 @@
+-- What a host gets of a recording.
+pub mod Compaction
