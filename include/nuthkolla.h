@@ -36,6 +36,8 @@
  * of a writer:
  *   7  a kind is above 6, or a regime above 1
  *   8  a buffer has too few bytes from the named place, or the place is past its end
+ *  10  a route's map is empty
+ *  11  a number of a route's record is not finite
  *  14  no change is left to take back
  * A refused call changes no guidance and no buffer.
  */
@@ -229,6 +231,59 @@ nuthkolla_place nuthkolla_write_config(uint8_t *out, size_t length, size_t at, n
 
 /* Reads a configuration's record from the place `at` on, without judging its numbers. Refusals 5, 6. */
 nuthkolla_config_read nuthkolla_read_config(const uint8_t *bytes, size_t length, size_t at);
+
+/* ---- routes */
+
+/* A route has up to 31 points. Its record is a 4-byte map, bits 0 to 30, then 16 bytes for each standing point: north, east, altitude,
+ * cruise speed. Standing points are numbered from 1 in bit order. The host holds the map and the number, and lends the points'
+ * numbers, four a point, so that a call copies none of them. */
+enum { NUTHKOLLA_ROUTE_BYTES = 500, NUTHKOLLA_ROUTE_NUMBERS = 124 };
+
+typedef struct nuthkolla_route {
+    uint64_t map;    /* 0: no route is loaded */
+    uint32_t number; /* of the point that is flown to, from 1 to one past the last; 0 counts as 1, more than that as that */
+    float numbers[NUTHKOLLA_ROUTE_NUMBERS];
+} nuthkolla_route;
+
+typedef struct nuthkolla_route_loaded {
+    uint32_t refusal; /* 0, or the refusal's number; then all else is 0 */
+    uint32_t number;  /* 1 */
+    uint64_t map;
+    size_t next; /* the place after the record */
+} nuthkolla_route_loaded;
+
+/* A route call as numbers: the route's map and number, and what comes with the call. Flags are 0 or not 0. */
+typedef struct nuthkolla_route_call {
+    uint64_t map;
+    uint32_t number;
+    uint32_t regime; /* 0 copter, 1 plane */
+    float dt;        /* time step, s */
+    nuthkolla_vec3 position_m, velocity_mps;
+    float roll_rad;
+    uint32_t has_airspeed;
+    float airspeed_mps;
+    uint32_t has_cap;
+    float pitch_cap_rad;
+} nuthkolla_route_call;
+
+typedef struct nuthkolla_route_answer {
+    nuthkolla_answer answer; /* its `next` is 0 */
+    uint32_t number;         /* the route's number after the call, which the host keeps */
+} nuthkolla_route_answer;
+
+/* Loads a route's record from the place `at` on: its numbers go to the front of `numbers`, the others are kept. Refusals, in this
+ * order: 5 for a map cut short, 6 for bit 31, 10, 5 for fewer bytes than the map demands, 11, 8 for too few `numbers`. A refused
+ * loading changes none of them. */
+nuthkolla_route_loaded nuthkolla_load_route(const uint8_t *bytes, size_t length, size_t at, float *numbers, size_t count);
+
+/* One route call on the host's guidance: moves on by one point where the point is passed, then flies to the point reached.
+ * Refusals: 7 for a regime above 1, 6 for bit 31 or more of the map, 10, 5 for fewer `numbers` than the map demands; then 2, 3, 4 of
+ * the guide call. A refused call keeps guidance and number. What is proved of lists of calls is in docs/HOST.md. */
+nuthkolla_route_answer nuthkolla_run_route(nuthkolla_guidance *guidance, nuthkolla_route_call call, const float *numbers, size_t count);
+
+/* Writes a route's record into `out` from the place `at` on; other bytes are kept. Refusals 6, 10, 5, then 8. Of a route that was
+ * loaded these are the bytes that were read. */
+nuthkolla_place nuthkolla_write_route(uint8_t *out, size_t length, size_t at, uint64_t map, const float *numbers, size_t count);
 
 /* ---- recordings: a configuration's record and the records of up to 4,096 calls */
 

@@ -103,6 +103,26 @@ int main(void)
     AT(nuthkolla_config_read, refusal);
     AT(nuthkolla_config_read, next);
     AT(nuthkolla_config_read, config);
+    SIZE(nuthkolla_route_loaded);
+    AT(nuthkolla_route_loaded, refusal);
+    AT(nuthkolla_route_loaded, number);
+    AT(nuthkolla_route_loaded, map);
+    AT(nuthkolla_route_loaded, next);
+    SIZE(nuthkolla_route_call);
+    AT(nuthkolla_route_call, map);
+    AT(nuthkolla_route_call, number);
+    AT(nuthkolla_route_call, regime);
+    AT(nuthkolla_route_call, dt);
+    AT(nuthkolla_route_call, position_m);
+    AT(nuthkolla_route_call, velocity_mps);
+    AT(nuthkolla_route_call, roll_rad);
+    AT(nuthkolla_route_call, has_airspeed);
+    AT(nuthkolla_route_call, airspeed_mps);
+    AT(nuthkolla_route_call, has_cap);
+    AT(nuthkolla_route_call, pitch_cap_rad);
+    SIZE(nuthkolla_route_answer);
+    AT(nuthkolla_route_answer, answer);
+    AT(nuthkolla_route_answer, number);
     SIZE(nuthkolla_compaction);
     AT(nuthkolla_compaction, refusal);
     AT(nuthkolla_compaction, field);
@@ -119,6 +139,8 @@ int main(void)
     NUMBER(NUTHKOLLA_TAKE_BACK);
     NUMBER(NUTHKOLLA_CALL_BYTES);
     NUMBER(NUTHKOLLA_CONFIG_BYTES);
+    NUMBER(NUTHKOLLA_ROUTE_BYTES);
+    NUMBER(NUTHKOLLA_ROUTE_NUMBERS);
     NUMBER(NUTHKOLLA_PATH_STEPS);
     return 0;
 }

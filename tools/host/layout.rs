@@ -1,6 +1,6 @@
 //! The Rust wrapper's sizes, places and numbers under the header's names, as layout.c prints the header's.
 
-use nuthkolla::{ffi, PlaneGuidanceConfig, TecsConfig, Vec3, CALL_BYTES, CONFIG_BYTES, PATH_STEPS};
+use nuthkolla::{ffi, PlaneGuidanceConfig, TecsConfig, Vec3, CALL_BYTES, CONFIG_BYTES, PATH_STEPS, ROUTE_BYTES, ROUTE_NUMBERS};
 use std::mem::{offset_of, size_of, size_of_val, zeroed};
 
 macro_rules! size {
@@ -119,6 +119,26 @@ fn main() {
     at!("nuthkolla_config_read.refusal", ffi::ConfigRead, refusal);
     at!("nuthkolla_config_read.next", ffi::ConfigRead, next);
     at!("nuthkolla_config_read.config", ffi::ConfigRead, config);
+    size!("nuthkolla_route_loaded", ffi::RouteLoaded);
+    at!("nuthkolla_route_loaded.refusal", ffi::RouteLoaded, refusal);
+    at!("nuthkolla_route_loaded.number", ffi::RouteLoaded, number);
+    at!("nuthkolla_route_loaded.map", ffi::RouteLoaded, map);
+    at!("nuthkolla_route_loaded.next", ffi::RouteLoaded, next);
+    size!("nuthkolla_route_call", ffi::RouteCall);
+    at!("nuthkolla_route_call.map", ffi::RouteCall, map);
+    at!("nuthkolla_route_call.number", ffi::RouteCall, number);
+    at!("nuthkolla_route_call.regime", ffi::RouteCall, regime);
+    at!("nuthkolla_route_call.dt", ffi::RouteCall, dt);
+    at!("nuthkolla_route_call.position_m", ffi::RouteCall, position_m);
+    at!("nuthkolla_route_call.velocity_mps", ffi::RouteCall, velocity_mps);
+    at!("nuthkolla_route_call.roll_rad", ffi::RouteCall, roll_rad);
+    at!("nuthkolla_route_call.has_airspeed", ffi::RouteCall, has_airspeed);
+    at!("nuthkolla_route_call.airspeed_mps", ffi::RouteCall, airspeed_mps);
+    at!("nuthkolla_route_call.has_cap", ffi::RouteCall, has_cap);
+    at!("nuthkolla_route_call.pitch_cap_rad", ffi::RouteCall, pitch_cap_rad);
+    size!("nuthkolla_route_answer", ffi::RouteAnswer);
+    at!("nuthkolla_route_answer.answer", ffi::RouteAnswer, answer);
+    at!("nuthkolla_route_answer.number", ffi::RouteAnswer, number);
     size!("nuthkolla_compaction", ffi::Compaction);
     at!("nuthkolla_compaction.refusal", ffi::Compaction, refusal);
     at!("nuthkolla_compaction.field", ffi::Compaction, field);
@@ -135,5 +155,7 @@ fn main() {
     println!("NUTHKOLLA_TAKE_BACK {}", ffi::TAKE_BACK);
     println!("NUTHKOLLA_CALL_BYTES {}", CALL_BYTES);
     println!("NUTHKOLLA_CONFIG_BYTES {}", CONFIG_BYTES);
+    println!("NUTHKOLLA_ROUTE_BYTES {}", ROUTE_BYTES);
+    println!("NUTHKOLLA_ROUTE_NUMBERS {}", ROUTE_NUMBERS);
     println!("NUTHKOLLA_PATH_STEPS {}", PATH_STEPS);
 }

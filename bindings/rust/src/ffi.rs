@@ -86,11 +86,43 @@ pub struct ConfigRead {
 
 #[repr(C)]
 #[derive(Clone, Copy, Debug)]
+pub struct RouteLoaded {
+    pub refusal: u32,
+    pub number: u32,
+    pub map: u64,
+    pub next: usize,
+}
+
+#[repr(C)]
+#[derive(Clone, Copy, Debug, Default)]
+pub struct RouteCall {
+    pub map: u64,
+    pub number: u32,
+    pub regime: u32,
+    pub dt: f32,
+    pub position_m: crate::Vec3,
+    pub velocity_mps: crate::Vec3,
+    pub roll_rad: f32,
+    pub has_airspeed: u32,
+    pub airspeed_mps: f32,
+    pub has_cap: u32,
+    pub pitch_cap_rad: f32,
+}
+
+#[repr(C)]
+#[derive(Clone, Copy, Debug)]
 pub struct Compaction {
     pub refusal: u32,
     pub field: u32,
     pub call: u32,
     pub length: usize,
+}
+
+#[repr(C)]
+#[derive(Clone, Copy, Debug)]
+pub struct RouteAnswer {
+    pub answer: Answer,
+    pub number: u32,
 }
 
 #[repr(C)]
@@ -112,6 +144,9 @@ extern "C" {
     pub fn nuthkolla_write_call(out: *mut u8, length: usize, at: usize, call: Call) -> Place;
     pub fn nuthkolla_write_config(out: *mut u8, length: usize, at: usize, config: crate::PlaneGuidanceConfig) -> Place;
     pub fn nuthkolla_read_config(bytes: *const u8, length: usize, at: usize) -> ConfigRead;
+    pub fn nuthkolla_load_route(bytes: *const u8, length: usize, at: usize, numbers: *mut f32, count: usize) -> RouteLoaded;
+    pub fn nuthkolla_run_route(guidance: *mut Guidance, call: RouteCall, numbers: *const f32, count: usize) -> RouteAnswer;
+    pub fn nuthkolla_write_route(out: *mut u8, length: usize, at: usize, map: u64, numbers: *const f32, count: usize) -> Place;
     pub fn nuthkolla_compact(bytes: *mut u8, length: usize) -> Compaction;
     pub fn nuthkolla_draw_path(guidance: Guidance, call: Call, steps: usize, out: *mut f32, length: usize) -> Path;
     pub fn nuthkolla_default_config() -> crate::PlaneGuidanceConfig;

@@ -28,6 +28,10 @@ pub use types::*;
 pub const CALL_BYTES: usize = 86;
 /// The greatest length of a configuration record.
 pub const CONFIG_BYTES: usize = 137;
+/// The greatest length of a route record.
+pub const ROUTE_BYTES: usize = 500;
+/// The numbers of the points of the longest route, four a point.
+pub const ROUTE_NUMBERS: usize = 124;
 
 /// The greatest number of steps of a drawn path.
 pub const PATH_STEPS: usize = 600;
@@ -251,6 +255,121 @@ impl PlaneGuidance {
         }
         Refusal::of(answer.refusal)?;
         Ok(answer)
+    }
+}
+
+/// A route: up to 31 points, and the number of the point that is flown to.
+///
+/// ```
+/// use nuthkolla::{FlightRegime, PlaneGuidance, PlaneGuidanceConfig, Refusal, Route, VehicleState};
+///
+/// // bits 0 and 2: two points, 100 m apart, each north, east, altitude, cruise speed
+/// let mut record = vec![5, 0, 0, 0];
+/// for number in [0f32, 0.0, 80.0, 17.0, 100.0, 0.0, 80.0, 17.0] {
+///     record.extend(number.to_le_bytes());
+/// }
+/// let (mut route, next) = Route::load(&record, 0)?;
+/// assert_eq!((next, route.number(), route.points().count()), (36, 1, 2));
+/// let mut guidance = PlaneGuidance::new(PlaneGuidanceConfig::default())?;
+/// let at_first = VehicleState::default();
+/// guidance.guide_route(&mut route, 0.1, FlightRegime::Plane, &at_first, None)?;
+/// assert_eq!(route.number(), 2);
+/// assert_eq!(guidance.guide_route(&mut route, -1.0, FlightRegime::Plane, &at_first, None), Err(Refusal::TimeStep));
+/// let mut again = [0; 36];
+/// route.write(&mut again, 0)?;
+/// assert_eq!(again[..], record[..]);
+/// assert_eq!(Route::load(&[0, 0, 0, 0], 0), Err(Refusal::NoPoint));
+/// # Ok::<(), Refusal>(())
+/// ```
+#[derive(Clone, Debug, PartialEq)]
+pub struct Route {
+    map: u64,
+    number: u32,
+    numbers: [f32; ROUTE_NUMBERS],
+}
+
+impl Route {
+    /// The route of a record from the place `at` on, and the place after it. Its number is 1.
+    ///
+    /// # Errors
+    ///
+    /// Refusals 5, 6, 10 and 11.
+    pub fn load(record: &[u8], at: usize) -> Result<(Self, usize), Refusal> {
+        let mut route = Route { map: 0, number: 0, numbers: [0.0; ROUTE_NUMBERS] };
+        let numbers = &mut route.numbers;
+        // Safety: both are borrowed for the call.
+        let loaded = unsafe { ffi::nuthkolla_load_route(record.as_ptr(), record.len(), at, numbers.as_mut_ptr(), numbers.len()) };
+        Refusal::of(loaded.refusal)?;
+        route.map = loaded.map;
+        route.number = loaded.number;
+        Ok((route, loaded.next))
+    }
+
+    /// From 1 to one past the last point.
+    pub fn number(&self) -> u32 {
+        self.number
+    }
+
+    /// Bit n says whether point n of the record stands.
+    pub fn map(&self) -> u64 {
+        self.map
+    }
+
+    /// North, east, altitude and cruise speed of each standing point.
+    pub fn points(&self) -> impl Iterator<Item = &[f32]> {
+        self.numbers.chunks(4).take(self.map.count_ones() as usize)
+    }
+
+    /// Writes the route's record from the place `at` on, keeps the other bytes, and gives the place after it.
+    ///
+    /// # Errors
+    ///
+    /// Refusal 8.
+    pub fn write(&self, out: &mut [u8], at: usize) -> Result<usize, Refusal> {
+        let numbers = &self.numbers;
+        // Safety: both are borrowed for the call.
+        let place = unsafe { ffi::nuthkolla_write_route(out.as_mut_ptr(), out.len(), at, self.map, numbers.as_ptr(), numbers.len()) };
+        Refusal::of(place.refusal)?;
+        Ok(place.next)
+    }
+}
+
+impl PlaneGuidance {
+    /// A route call: moves on by one point where the point is passed, then flies to the point reached.
+    ///
+    /// # Errors
+    ///
+    /// Refusals 2, 3 and 4; guidance and route then stay as they were.
+    pub fn guide_route(
+        &mut self,
+        route: &mut Route,
+        dt: f32,
+        regime: FlightRegime,
+        state: &VehicleState,
+        pitch_cap_rad: Option<f32>,
+    ) -> Result<Answer, Refusal> {
+        let call = ffi::RouteCall {
+            map: route.map,
+            number: route.number,
+            regime: match regime {
+                FlightRegime::Copter => 0,
+                FlightRegime::Plane => 1,
+            },
+            dt,
+            position_m: state.position_m,
+            velocity_mps: state.velocity_mps,
+            roll_rad: state.roll_rad,
+            has_airspeed: state.airspeed_mps.is_some() as u32,
+            airspeed_mps: state.airspeed_mps.unwrap_or(0.0),
+            has_cap: pitch_cap_rad.is_some() as u32,
+            pitch_cap_rad: pitch_cap_rad.unwrap_or(0.0),
+        };
+        // Safety: both are borrowed for the call, the guidance for itself alone.
+        let flown = unsafe { ffi::nuthkolla_run_route(&mut self.held, call, route.numbers.as_ptr(), route.numbers.len()) };
+        Refusal::of(flown.answer.refusal)?;
+        route.number = flown.number;
+        let cross_track_m = Some(flown.answer.cross_track_m);
+        Ok(Answer { setpoint: setpoint_of(&flown.answer), laws: laws_of(&flown.answer), cross_track_m, next: 0 })
     }
 }
 

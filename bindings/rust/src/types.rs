@@ -377,6 +377,10 @@ pub enum Refusal {
     Kind,
     /// 8: the buffer has too few bytes from the place on, or too few numbers for a path.
     Room,
+    /// 10: a route's map is empty.
+    NoPoint,
+    /// 11: a number of a route's record is not finite.
+    PointNotFinite,
     /// 9: a recording has more than 4,096 calls.
     Calls,
     /// 12: a path's step count is 0 or above 600.
@@ -397,6 +401,8 @@ impl Refusal {
             Refusal::Map => 6,
             Refusal::Kind => 7,
             Refusal::Room => 8,
+            Refusal::NoPoint => 10,
+            Refusal::PointNotFinite => 11,
             Refusal::Calls => 9,
             Refusal::Steps => 12,
             Refusal::NothingKept => 14,
@@ -413,6 +419,8 @@ impl Refusal {
             5 => Refusal::Short,
             6 => Refusal::Map,
             7 => Refusal::Kind,
+            10 => Refusal::NoPoint,
+            11 => Refusal::PointNotFinite,
             9 => Refusal::Calls,
             12 => Refusal::Steps,
             14 => Refusal::NothingKept,

@@ -1,0 +1,2 @@
+-- Routes for a host.
+pub mod Route

@@ -1,0 +1,4 @@
+-- The claims about lists of calls under a route.
+pub mod Flown
+pub mod Loaded
+pub mod Table

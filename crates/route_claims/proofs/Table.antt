@@ -1,0 +1,19 @@
+-- The two tables, computed. Assumes nothing.
+use mathlib.Core.Path.{_≡_, refl}
+use lib.Ieee.{ofBits, add, sub, mul, le, isNan}
+use Rattle.arithmetic.specs.Order.{finite}
+use Rattle.arithmetic.specs.Root.{rootOf}
+use Rattle.arithmetic.specs.Vector.{norm, dot}
+use Rattle.fields.specs.Bytes.{numberAt}
+use Rattle.fields.specs.Fields.{ones}
+use Rattle.route_records.specs.Record.{numberCount, mapRefusal, numbersAt, allFinite, readRoute}
+use Rattle.routes.specs.Route.{pointAt, noPoint, numbered, isNear, isPassed, meets}
+use Rattle.route_claims.specs.Table.{found, wanted, TestTable, outcomes, expected, LoadTable}
+
+pub test-table : TestTable
+unfolding found wanted meets isNear isPassed numbered noPoint pointAt norm dot rootOf ofBits add sub mul le isNan
+test-table = refl
+
+pub load-table : LoadTable
+unfolding outcomes expected readRoute mapRefusal numberCount numbersAt allFinite numberAt ones finite ofBits
+load-table = refl

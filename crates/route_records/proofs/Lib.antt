@@ -1,0 +1,4 @@
+-- Laws of the route record.
+pub mod NumbersLaw
+pub mod RecordLaw
+pub mod RouteBack

@@ -1,0 +1,2 @@
+-- Laws of a route's points.
+pub mod PointsLaw

@@ -1,0 +1,2 @@
+-- Document 02, K2: a route flown.
+pub mod Route
