@@ -1,0 +1,125 @@
+-- What a display with the older program does with stored routes and with long ones. Assumes nothing.
+use mathlib.Core.Path.{_≡_, refl, sym, ap, subst, _∙_}
+use mathlib.Core.Bool.{Bool, true, false, cond, not}
+use mathlib.Core.List.{List, [], _∷_, _++_, append-assoc}
+use Prim.Native.Nat.{ℕ, _+_, _-_, _*_, _/_, _%_, _<_, _≤_, _^_}
+use native.Mathlib.Omega.{arith}
+use borrow.Author.Tests.{le-leb, lt-ltb, le-ltb, ne-eqb, eqb-true, eqb-false, ltb-true, leb-true}
+use lib.Dec.{eqb, ltb}
+use lib.ListN.{length, drop, take, length-append, length-drop}
+use lib.Seq.{drop-at, length-take-le}
+use lib.Ieee.{Float}
+use Rattle.fields.specs.Bytes.{numberAt, bytesOf, hasBytes, putAt}
+use Rattle.fields.specs.Writing.{bufferOf}
+use Rattle.fields.proofs.NumberLaw.{number-back}
+use Rattle.route_records.specs.declared.Loaded.the-variants as loaded
+use Rattle.route_records.specs.Record.{Route, numberCount, oneMap, readMaps, readPoints, numbersAt, allFinite, RouteRead, refused, read, readRoute, numberBytes, mapsBytes, routeRecord}
+use Rattle.route_records.specs.Older.{olderMapRefusal, olderReadRoute, olderRouteRecord}
+use Rattle.route_records.specs.Laws.{IsRoute, AreBytes, StoredKept, OlderDisplay, RouteKept}
+use Rattle.route_records.proofs.MapsLaw.{one-map-bytes, two-map-bytes, two-maps-long}
+use Rattle.route_records.proofs.RecordLaw.{record-size}
+use Rattle.route_records.proofs.RouteBack.{route-kept}
+
+older-map : (m : ℕ) → olderMapRefusal m ≡ 0 → (m < 2147483648) × (m ≡ 0 → ⊥)
+unfolding olderMapRefusal
+older-map m e = go (ltb m 2147483648) refl (eqb m 0) refl e
+  where
+    go : (b : Bool) → ltb m 2147483648 ≡ b → (z : Bool) → eqb m 0 ≡ z → _≡_ {A = ℕ} (cond (not b) 6 (cond z 10 0)) 0 → (m < 2147483648) × (m ≡ 0 → ⊥)
+    go true q true r w = absurd (omega arith)
+    go true q false r w = (ltb-true m 2147483648 q, eqb-false m 0 r)
+    go false q z r w = absurd (omega arith)
+
+-- ---- stored routes
+
+-- the older reader's answer that is no refusal
+inverted : (a z d f : Bool) (k : ℕ) (v r : Route) (n next : ℕ)
+    → cond (not a) (refused 5) (cond (not z) (refused k) (cond (not d) (refused 5) (cond (not f) (refused 11) (read v n)))) ≡ read r next
+    → (a ≡ true) × (z ≡ true) × (d ≡ true) × (f ≡ true) × (v ≡ r) × (n ≡ next)
+inverted true true true true k v r n next e = (refl, refl, refl, refl, cc, cc)
+inverted true true true false k v r n next e = let z : _≡_ {A = ℕ} 0 1 = cc in absurd (omega arith)
+inverted true true false f k v r n next e = let z : _≡_ {A = ℕ} 0 1 = cc in absurd (omega arith)
+inverted true false d f k v r n next e = let z : _≡_ {A = ℕ} 0 1 = cc in absurd (omega arith)
+inverted false z d f k v r n next e = let z : _≡_ {A = ℕ} 0 1 = cc in absurd (omega arith)
+
+same-record : (r : Route) → r .map < 2147483648 → routeRecord r ≡ olderRouteRecord r
+unfolding routeRecord olderRouteRecord
+same-record r h = rw (one-map-bytes (r .map) h)
+
+module _ (s : List ℕ) (at : ℕ) (r : Route) (next : ℕ) (e : olderReadRoute s at ≡ read r next) where
+  abbrev Map : ℕ
+  Map = numberAt 4 (drop at s)
+
+  abbrev Count : ℕ
+  Count = numberCount Map
+
+  abbrev Numbers : List Float
+  Numbers = numbersAt Count (drop (at + 4) s)
+
+  answered : (hasBytes s at 4 ≡ true) × (eqb (olderMapRefusal Map) 0 ≡ true) × (hasBytes s at (4 + 4 * Count) ≡ true) × (allFinite Numbers ≡ true)
+      × (record { map = Map; numbers = Numbers } ≡ r) × (at + (4 + 4 * Count) ≡ next)
+  unfolding olderReadRoute
+  answered = inverted (hasBytes s at 4) (eqb (olderMapRefusal Map) 0) (hasBytes s at (4 + 4 * Count)) (allFinite Numbers) (olderMapRefusal Map) _ r _ next e
+
+  map-is : (Map < 2147483648) × (Map ≡ 0 → ⊥)
+  map-is = older-map Map (eqb-true (olderMapRefusal Map) 0 (answered .1))
+
+  maps-are : readMaps s at ≡ loaded.Read Map (at + 4)
+  unfolding readMaps oneMap
+  maps-are = rw (answered .0, lt-ltb Map 2147483648 (map-is .0), ne-eqb Map 0 (map-is .1))
+
+  read-same : readRoute s at ≡ read r next
+  unfolding readRoute readPoints
+  read-same =
+      let a = answered in
+      let fits : at + 4 + 4 * Count ≤ length s = omega (arith, leb-true (at + (4 + 4 * Count)) (length s) (a .2)) in
+      let ends : at + 4 + 4 * Count ≡ next = omega (arith, a .5) in
+      rw (maps-are, le-leb (at + 4 + 4 * Count) (length s) fits, a .3, ends, a .4)
+
+  small : r .map < 2147483648
+  small = subst (λ (x : Route). x .map < 2147483648) (answered .4) (map-is .0)
+
+  pub kept : StoredKept s at r next
+  kept = record { same = read-same; alone = small; written = same-record r small; bytes = λ (h : AreBytes s). route-kept .bytes s at r next h read-same }
+
+-- ---- long routes
+
+module _ (s : List ℕ) (at : ℕ) (r : Route) (rest : List ℕ) (h : 2147483648 ≤ r .map) (e : drop at s ≡ routeRecord r ++ rest) where
+  abbrev A : ℕ
+  A = 2147483648 + r .map % 2147483648
+
+  abbrev Tail : List ℕ
+  Tail = (bytesOf 4 (r .map / 2147483648) ++ numberBytes (r .numbers)) ++ rest
+
+  starts : drop at s ≡ bytesOf 4 A ++ Tail
+  unfolding routeRecord
+  starts =
+      e ∙ rw (two-map-bytes (r .map) h, append-assoc (bytesOf 4 A) (bytesOf 4 (r .map / 2147483648)) (numberBytes (r .numbers)))
+      (append-assoc (bytesOf 4 A) (bytesOf 4 (r .map / 2147483648) ++ numberBytes (r .numbers)) rest)
+
+  room : at + 4 ≤ length s
+  room =
+      let size : length s - at ≡ length (routeRecord r) + length rest = sym (length-drop at s) ∙ ap length e ∙ length-append (routeRecord r) rest in
+      omega (arith, record-size r, two-maps-long (r .map) h)
+
+  first : numberAt 4 (drop at s) ≡ A
+  first = rw starts (number-back 4 A Tail (omega arith))
+
+  pub refuses : olderReadRoute s at ≡ refused 6
+  unfolding olderReadRoute olderMapRefusal
+  refuses = rw (le-leb (at + 4) (length s) room, first, le-ltb A 2147483648 (omega arith))
+
+refuses-written : (out : List ℕ) (at : ℕ) (r : Route) → 2147483648 ≤ r .map → hasBytes out at (length (routeRecord r)) ≡ true
+    → olderReadRoute (bufferOf out at (routeRecord r)) at ≡ refused 6
+unfolding bufferOf
+refuses-written out at r h e =
+    let bs = routeRecord r in
+    let l : length (take at out) ≡ at = length-take-le at out (omega (arith, leb-true (at + length bs) (length out) e)) in
+    rw e (refuses (putAt out at bs) at r (drop (at + length bs) out) h (drop-at (take at out) (bs ++ drop (at + length bs) out) at l))
+
+pub older-display : OlderDisplay
+older-display =
+    record {
+      stored = kept;
+      long = λ s at r rest f h e. refuses s at r rest h e;
+      written = λ out at r f h e. refuses-written out at r h e;
+    }
