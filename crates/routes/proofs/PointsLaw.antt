@@ -116,13 +116,13 @@ ones-some (suc n) m h l = go (eqb (m % 2) 0) refl (λ (p : 0 < m / 2) (q : m / 2
 
 map-some : (m : ℕ) → mapRefusal m ≡ 0 → 1 ≤ ones 64 m
 unfolding mapRefusal
-map-some m e = go (ltb m 2147483648) refl (eqb m 0) refl e
+map-some m e = go (ltb m 4611686018427387904) refl (eqb m 0) refl e
   where
-    go : (a : Bool) → ltb m 2147483648 ≡ a → (b : Bool) → eqb m 0 ≡ b → _≡_ {A = ℕ} (cond (not a) 6 (cond b 10 0)) 0 → 1 ≤ ones 64 m
+    go : (a : Bool) → ltb m 4611686018427387904 ≡ a → (b : Bool) → eqb m 0 ≡ b → _≡_ {A = ℕ} (cond (not a) 6 (cond b 10 0)) 0 → 1 ≤ ones 64 m
     go true p true q z = absurd (omega arith)
     go true p false q z =
         let some : m ≡ 0 → ⊥ = eqb-false m 0 q in
-        ones-some 64 m (omega arith) (omega (arith, ltb-true m 2147483648 p))
+        ones-some 64 m (omega arith) (omega (arith, ltb-true m 4611686018427387904 p))
     go false p b q z = absurd (omega arith)
 
 -- numbers that are not refused: there is a point, and each has its numbers
