@@ -16,6 +16,16 @@ use Rattle.route_records.specs.declared.Loaded.{Loaded}
 use Rattle.route_records.specs.declared.Loaded.the-variants as loaded
 use Rattle.route_records.specs.Record.{mapRefusal, oneMap, joined, twoMaps, readMaps, mapsBytes}
 
+-- ---- one map or two
+
+-- a map is below 2^31, or it is not
+pub either : {A : Type 0} (m : ℕ) → (m < 2147483648 → A) → (2147483648 ≤ m → A) → A
+either {A} m f g = go (ltb m 2147483648) refl
+  where
+    go : (b : Bool) → ltb m 2147483648 ≡ b → A
+    go true e = f (ltb-true m 2147483648 e)
+    go false e = g (ltb-false m 2147483648 e)
+
 -- ---- reading
 
 module _ (s : List ℕ) (at : ℕ) where
@@ -61,6 +71,13 @@ two-maps-long m h =
     let a = 2147483648 + m % 2147483648 in
     let b = m / 2147483648 in
     rw (two-map-bytes m h) (length-append (bytesOf 4 a) (bytesOf 4 b) ∙ omega (arith, bytes-long 4 a, bytes-long 4 b))
+
+-- which of them the size tells
+pub is-one : (m k : ℕ) → k ≡ length (mapsBytes m) → k ≡ 4 → m < 2147483648
+is-one m k e h = either m (λ (low : m < 2147483648). low) (λ (high : 2147483648 ≤ m). omega (arith, two-maps-long m high))
+
+pub is-two : (m k : ℕ) → k ≡ length (mapsBytes m) → (k ≡ 4 → ⊥) → 2147483648 ≤ m
+is-two m k e h = either m (λ (low : m < 2147483648). absurd (h (e ∙ one-map-long m low))) (λ (high : 2147483648 ≤ m). high)
 
 -- ---- writing
 

@@ -25,7 +25,7 @@ use Rattle.route_records.specs.declared.Loaded.the-variants as loaded
 use Rattle.route_records.specs.Record.{Route, numberCount, mapRefusal, joined, oneMap, twoMaps, readMaps, readPoints, numbersAt, allFinite, RouteRead, refused, read, readRoute, numberBytes, mapsBytes, routeRecord}
 use Rattle.route_records.specs.Laws.{IsRoute, RouteLaws, AreBytes, RouteKept}
 use Rattle.route_records.proofs.NumbersLaw.{numbers-long, bytes-size}
-use Rattle.route_records.proofs.MapsLaw.{one-map-bytes, two-map-bytes, one-map-long, two-maps-long}
+use Rattle.route_records.proofs.MapsLaw.{either, one-map-bytes, two-map-bytes, one-map-long, two-maps-long}
 use Rattle.route_records.proofs.RecordLaw.{record-size}
 
 -- ---- a map that is not refused
@@ -48,14 +48,6 @@ module _ (m : ℕ) (e : mapRefusal m ≡ 0) where
 not-refused : (m : ℕ) → m < 4611686018427387904 → (m ≡ 0 → ⊥) → mapRefusal m ≡ 0
 unfolding mapRefusal
 not-refused m h z = rw (lt-ltb m 4611686018427387904 h, ne-eqb m 0 z)
-
--- a map is below 2^31, or it is not
-either : {A : Type 0} (m : ℕ) → (m < 2147483648 → A) → (2147483648 ≤ m → A) → A
-either {A} m f g = go (ltb m 2147483648) refl
-  where
-    go : (b : Bool) → ltb m 2147483648 ≡ b → A
-    go true e = f (ltb-true m 2147483648 e)
-    go false e = g (ltb-false m 2147483648 e)
 
 -- ---- where a record stands
 

@@ -189,11 +189,11 @@ fn maps_size(map: u64) -> usize
     8
 }
 
-fn write_maps(part: &mut [u8], map: u64)
-    requires { ⌜ length (spec.mapsBytes map) ≤ length (now part) ⌝ }
+fn write_maps(part: &mut [u8], size: usize, map: u64)
+    requires { ⌜ (size ≡ length (spec.mapsBytes map)) × (size ≤ length (now part)) ⌝ }
     ensures { λ _. ⌜ now (part .exit) ≡ spec.mapsBytes map ++ drop (length (spec.mapsBytes map)) (now (part .entry)) ⌝ }
 {
-    if map < SECOND {
+    if size == 4 {
         write_number(part, 4, map);
     } else {
         write_number(part, 4, SECOND + map % SECOND);
@@ -205,7 +205,7 @@ fn write_record(part: &mut [u8], size: usize, map: u64, numbers: &[f32])
     requires { ⌜ (size ≡ length (spec.mapsBytes map)) × (size + 4 * length (now numbers) ≤ length (now part)) ⌝ }
     ensures { λ _. ⌜ now (part .exit) ≡ putAt (now (part .entry)) 0 (spec.mapsBytes map ++ spec.numberBytes (now (numbers .entry))) ⌝ }
 {
-    write_maps(part, map);
+    write_maps(part, size, map);
     write_numbers(part, size, numbers);
 }
 
