@@ -1,4 +1,6 @@
 -- `two_maps` meets its contract. Assumes nothing.
+use mathlib.Core.Path.{_≡_}
+use native.Mathlib.Omega.{arith}
 use borrow.Author.Tests.{le-ltb, lt-ltb, eq-eqb, ne-eqb}
 use Rattle.route_records.specs.Record.{twoMaps}
 use borrow.Author.Needs.{needs}
@@ -11,7 +13,7 @@ returns c = rw (le-ltb _ _ (c .if1 .taken))
 
 returns-2 : tie.Need-returns-2
 unfolding twoMaps
-returns-2 c = rw (lt-ltb _ _ (c .before .if1 .left), eq-eqb _ _ (c .if2 .taken))
+returns-2 c = rw (lt-ltb _ _ (c .before .if1 .left), eq-eqb (c .before .before .args .second) 0 (omega (arith, c .if2 .taken, c .before .if1 .left)))
 
 mul-t6 : tie.Need-mul-t6
 mul-t6 c = search needs
@@ -21,7 +23,9 @@ add-t7 c = search needs
 
 returns-3 : tie.Need-returns-3
 unfolding twoMaps
-returns-3 c = rw (lt-ltb _ _ (c .before .if1 .left), ne-eqb _ _ (c .if2 .left))
+returns-3 c =
+    let second = c .before .before .args .second in
+    rw (lt-ltb _ _ (c .before .if1 .left), ne-eqb second 0 (λ (z : second ≡ 0). omega (arith, c .if2 .left)))
 
 pub two-maps-spec : {M : Type 1} → statement M
 two-maps-spec = tie.close (tie.spec returns returns-2 mul-t6 add-t7 returns-3)
