@@ -5,17 +5,18 @@ use mathlib.Core.List.{List, [], _∷_, _++_, append-assoc}
 use Prim.Native.Nat.{ℕ, _+_, _-_, _*_, _/_, _%_, _<_, _≤_, _^_}
 use native.Mathlib.Omega.{arith}
 use borrow.Author.Tests.{le-leb, lt-ltb, le-ltb, ne-eqb, eqb-true, eqb-false, ltb-true, leb-true}
-use lib.Dec.{eqb, ltb}
+use lib.Dec.{eqb, leb, ltb}
 use lib.ListN.{length, drop, take, length-append, length-drop}
 use lib.Seq.{drop-at, length-take-le}
 use lib.Ieee.{Float}
 use Rattle.fields.specs.Bytes.{numberAt, bytesOf, hasBytes, putAt}
-use Rattle.fields.specs.Writing.{bufferOf}
+use Rattle.fields.specs.Writing.{answerOf, bufferOf}
+use Rattle.fields.specs.declared.Written.the-variants as written
 use Rattle.fields.proofs.NumberLaw.{number-back}
 use Rattle.route_records.specs.declared.Loaded.the-variants as loaded
-use Rattle.route_records.specs.Record.{Route, numberCount, oneMap, readMaps, readPoints, numbersAt, allFinite, RouteRead, refused, read, readRoute, numberBytes, mapsBytes, routeRecord}
+use Rattle.route_records.specs.Record.{Route, numberCount, mapRefusal, oneMap, readMaps, readPoints, numbersAt, allFinite, RouteRead, refused, read, readRoute, numberBytes, mapsBytes, routeRecord, routeOf, writeAnswer, writeBuffer}
 use Rattle.route_records.specs.Older.{olderMapRefusal, olderReadRoute, olderRouteRecord}
-use Rattle.route_records.specs.Laws.{IsRoute, AreBytes, StoredKept, OlderDisplay, RouteKept}
+use Rattle.route_records.specs.Laws.{AreBytes, StoredKept, OlderDisplay, RouteKept}
 use Rattle.route_records.proofs.MapsLaw.{one-map-bytes, two-map-bytes, two-maps-long}
 use Rattle.route_records.proofs.RecordLaw.{record-size}
 use Rattle.route_records.proofs.RouteBack.{route-kept}
@@ -108,18 +109,38 @@ module _ (s : List ℕ) (at : ℕ) (r : Route) (rest : List ℕ) (h : 2147483648
   unfolding olderReadRoute olderMapRefusal
   refuses = rw (le-leb (at + 4) (length s) room, first, le-ltb A 2147483648 (omega arith))
 
-refuses-written : (out : List ℕ) (at : ℕ) (r : Route) → 2147483648 ≤ r .map → hasBytes out at (length (routeRecord r)) ≡ true
-    → olderReadRoute (bufferOf out at (routeRecord r)) at ≡ refused 6
-unfolding bufferOf
-refuses-written out at r h e =
-    let bs = routeRecord r in
-    let l : length (take at out) ≡ at = length-take-le at out (omega (arith, leb-true (at + length bs) (length out) e)) in
-    rw e (refuses (putAt out at bs) at r (drop (at + length bs) out) h (drop-at (take at out) (bs ++ drop (at + length bs) out) at l))
+no-place : {A : Type 0} (k next : ℕ) → written.Refused k ≡ written.Next next → A
+no-place k next e = let z : _≡_ {A = ℕ} 0 1 = cc in absurd (omega arith)
+
+module _ (out : List ℕ) (at m : ℕ) (numbers : List Float) (next : ℕ) (h : 2147483648 ≤ m) where
+  abbrev Written : Route
+  Written = routeOf m numbers
+
+  abbrev Bytes : List ℕ
+  Bytes = routeRecord Written
+
+  refuses-put : at + length Bytes ≤ length out → olderReadRoute (putAt out at Bytes) at ≡ refused 6
+  refuses-put k =
+      let l : length (take at out) ≡ at = length-take-le at out (omega arith) in
+      refuses (putAt out at Bytes) at Written (drop (at + length Bytes) out) h (drop-at (take at out) (Bytes ++ drop (at + length Bytes) out) at l)
+
+  refuses-written : writeAnswer out at m numbers ≡ written.Next next → olderReadRoute (writeBuffer out at m numbers) at ≡ refused 6
+  unfolding writeAnswer writeBuffer answerOf bufferOf
+  refuses-written e = go (eqb (mapRefusal m) 0) (leb (numberCount m) (length numbers)) (hasBytes out at (length Bytes)) refl e
+    where
+      go : (a b d : Bool) → hasBytes out at (length Bytes) ≡ d
+          → cond (not a) (written.Refused (mapRefusal m)) (cond (not b) (written.Refused 5) (cond d (written.Next (at + length Bytes)) (written.Refused 8))) ≡ written.Next next
+          → olderReadRoute (cond (not a) out (cond (not b) out (cond d (putAt out at Bytes) out))) at ≡ refused 6
+      go true true true q w = refuses-put (leb-true (at + length Bytes) (length out) q)
+      go true true false q w = no-place 8 next w
+      go true false d q w = no-place 5 next w
+      go false b d q w = no-place (mapRefusal m) next w
 
 pub older-display : OlderDisplay
 older-display =
     record {
       stored = kept;
-      long = λ s at r rest f h e. refuses s at r rest h e;
-      written = λ out at r f h e. refuses-written out at r h e;
+      long = refuses;
+      written = refuses-written;
+      unseen = λ s at out e. (rw e, rw e);
     }

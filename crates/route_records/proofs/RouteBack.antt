@@ -344,6 +344,7 @@ longest-is = record { map = refl; long = length-replicate 248 n0; held = all-hel
 pub route-kept : RouteKept
 route-kept =
     record {
+      apart = λ first second. (omega arith, omega arith);
       longest = λ r f.
           either (r .map)
           (λ (h : r .map < 2147483648). omega (arith, record-size r, f .long, one-map-long (r .map) h, count-le (r .map) (f .map)))
