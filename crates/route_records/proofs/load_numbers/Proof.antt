@@ -38,10 +38,16 @@ all-finite-requires : tie.Need-all-finite-requires
 all-finite-requires c κs = search needs
 
 returns-3 : tie.Need-returns-3
-returns-3 c = not-finite _ _ _ _ _ (c .before .before .before .before .numbers-of .ensures .0) (omega (arith, c .before .before .before .if2 .left, c .before .before .before .before .before .if1 .left)) _ (c .before .all-finite .ensures) (not-true _ (c .if3 .taken))
+returns-3 c =
+    let t = c .before .before .before in
+    not-finite _ _ _ _ _ (t .before .numbers-of .ensures .0) (omega (arith, t .if2 .left, t .before .before .if1 .left)) _
+    (c .before .all-finite .ensures) (not-true _ (c .if3 .taken))
 
 returns-4 : tie.Need-returns-4
-returns-4 c = no-room _ _ _ _ _ (c .before .before .before .before .before .numbers-of .ensures .0) (omega (arith, c .before .before .before .before .if2 .left, c .before .before .before .before .before .before .if1 .left)) _ (c .before .before .all-finite .ensures) (not-false _ (c .before .if3 .left)) (c .if4 .taken)
+returns-4 c =
+    let t = c .before .before .before .before in
+    no-room _ _ _ _ _ (t .before .numbers-of .ensures .0) (omega (arith, t .if2 .left, t .before .before .if1 .left)) _
+    (c .before .before .all-finite .ensures) (not-false _ (c .before .if3 .left)) (c .if4 .taken)
 
 sub-read-numbers : tie.Need-sub-read-numbers
 sub-read-numbers c = search needs
@@ -60,9 +66,10 @@ slice-aggregate-read-numbers c = sym (length-take-le _ _ (c .before .before .if4
 
 read-numbers-requires : tie.Need-read-numbers-requires
 read-numbers-requires c κs =
-    let a = c .before .before .before .before .before .before .before .before .before .before .before .args in
-    let n = c .before .before .before .before .before .before .before .numbers-of .result in
-    let room : a .from + (0 + 4 * n) ≤ length (a .s .now) = omega (arith, c .before .before .before .before .before .before .if2 .left, c .before .before .before .before .before .before .before .before .if1 .left) in
+    let t = c .before .before .before .before .before .before in
+    let a = t .before .before .before .before .before .args in
+    let n = t .before .numbers-of .result in
+    let room : a .from + (0 + 4 * n) ≤ length (a .s .now) = omega (arith, t .if2 .left, t .before .before .if1 .left) in
     omega (arith, part-room 0 n (a .from) (a .out .now) (a .s .now) (c .before .before .if4 .left) room)
 
 mul-t8 : tie.Need-mul-t8
@@ -76,8 +83,10 @@ same-length c = search needs
 
 returns-5 : tie.Need-returns-5
 returns-5 c =
-    loads _ _ _ _ _ (c .before .before .before .before .before .before .before .before .before .before .numbers-of .ensures .0) (omega (arith, c .before .before .before .before .before .before .before .before .before .if2 .left, c .before .before .before .before .before .before .before .before .before .before .before .if1 .left)) _
-    (c .before .before .before .before .before .before .before .all-finite .ensures) (not-false _ (c .before .before .before .before .before .before .if3 .left)) (c .before .before .before .before .before .if4 .left)
+    let d = c .before .before .before .before .before in
+    let t = d .before .before .before .before in
+    loads _ _ _ _ _ (t .before .numbers-of .ensures .0) (omega (arith, t .if2 .left, t .before .before .if1 .left)) _
+    (d .before .before .all-finite .ensures) (not-false _ (d .before .if3 .left)) (d .if4 .left)
     (c .before .before .read-numbers .last .1 .0) (c .before .before .read-numbers .ensures)
 
 pub load-numbers-spec : {M : Type 1} → statement M

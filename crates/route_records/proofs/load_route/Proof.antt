@@ -24,7 +24,9 @@ same-length : tie.Need-same-length
 same-length c = search needs
 
 returns-2 : tie.Need-returns-2
-returns-2 c = maps-given _ _ _ _ _ (sym (c .before .before .before .before .before .map .given .1) ∙ c .before .before .before .before .before .before .before .read-maps .ensures) _ _ (c .before .before .load-numbers .ensures)
+returns-2 c =
+    let t = c .before .before .before .before .before in
+    maps-given _ _ _ _ _ (sym (t .map .given .1) ∙ t .before .before .read-maps .ensures) _ _ (c .before .before .load-numbers .ensures)
 
 pub load-route-spec : {M : Type 1} → statement M
 load-route-spec =

@@ -34,13 +34,18 @@ one-map-requires : tie.Need-one-map-requires
 one-map-requires c κs = search needs
 
 returns-3 : tie.Need-returns-3
-returns-3 c = c .one-map .ensures ∙ stands-alone _ _ (omega (arith, c .before .before .before .before .if2 .left, c .before .before .before .before .before .if1 .left)) _ (c .before .before .read-number .ensures .0) (c .before .if3 .taken)
+returns-3 c =
+    let t = c .before .before .before .before in
+    c .one-map .ensures ∙ stands-alone _ _ (omega (arith, t .if2 .left, t .before .if1 .left)) _ (c .before .before .read-number .ensures .0) (c .before .if3 .taken)
 
 sub-if4 : tie.Need-sub-if4
 sub-if4 c = search needs
 
 returns-4 : tie.Need-returns-4
-returns-4 c = second-cut _ _ (omega (arith, c .before .before .before .before .if2 .left, c .before .before .before .before .before .if1 .left)) _ (c .before .before .read-number .ensures .0) (c .before .if3 .left) (omega (arith, c .if4 .taken))
+returns-4 c =
+    let t = c .before .before .before .before in
+    second-cut _ _ (omega (arith, t .if2 .left, t .before .if1 .left)) _ (c .before .before .read-number .ensures .0)
+    (c .before .if3 .left) (omega (arith, c .if4 .taken))
 
 sub-read-number-2 : tie.Need-sub-read-number-2
 sub-read-number-2 c = search needs
@@ -61,7 +66,12 @@ two-maps-requires : tie.Need-two-maps-requires
 two-maps-requires c κs = search needs
 
 returns-5 : tie.Need-returns-5
-returns-5 c = c .two-maps .ensures ∙ has-second _ _ (omega (arith, c .before .before .before .before .before .before .before .if2 .left, c .before .before .before .before .before .before .before .before .if1 .left)) _ (c .before .before .before .before .before .read-number .ensures .0) (c .before .before .before .before .if3 .left) (omega (arith, c .before .before .before .if4 .left)) _ (c .before .read-number2 .ensures .0)
+returns-5 c =
+    let f = c .before .before .before .before in
+    let t = f .before .before .before in
+    c .two-maps .ensures
+    ∙ has-second _ _ (omega (arith, t .if2 .left, t .before .if1 .left)) _ (f .before .read-number .ensures .0) (f .if3 .left)
+    (omega (arith, c .before .before .before .if4 .left)) _ (c .before .read-number2 .ensures .0)
 
 pub read-maps-spec : {M : Type 1} → statement M
 read-maps-spec =

@@ -22,7 +22,10 @@ returns-2 : tie.Need-returns-2
 returns-2 c = write-short _ _ _ _ _ (c .before .before .before .map-refusal .ensures) (c .before .before .if1 .left) _ (c .before .numbers-of .ensures .0) (c .if2 .taken)
 
 returns-3 : tie.Need-returns-3
-returns-3 c = write-full _ _ _ _ _ (c .before .before .before .before .map-refusal .ensures) (c .before .before .before .if1 .left) _ (c .before .before .numbers-of .ensures .0) (c .before .if2 .left) _ refl (omega (arith, c .if3 .taken))
+returns-3 c =
+    let t = c .before .before in
+    write-full _ _ _ _ _ (t .before .before .map-refusal .ensures) (t .before .if1 .left) _ (t .numbers-of .ensures .0)
+    (c .before .if2 .left) _ refl (omega (arith, c .if3 .taken))
 
 maps-size-requires : tie.Need-maps-size-requires
 maps-size-requires c κs = search needs
@@ -38,8 +41,9 @@ sub-if4 c = search needs
 
 returns-4 : tie.Need-returns-4
 returns-4 c =
-    write-full _ _ _ _ _ (c .before .before .before .before .before .before .map-refusal .ensures) (c .before .before .before .before .before .if1 .left) _ (c .before .before .before .before .numbers-of .ensures .0) (c .before .before .before .if2 .left) _
-    (c .before .maps-size .ensures .0) (omega (arith, c .if4 .taken, c .before .before .if3 .left))
+    let t = c .before .before .before .before in
+    write-full _ _ _ _ _ (t .before .before .map-refusal .ensures) (t .before .if1 .left) _ (t .numbers-of .ensures .0)
+    (c .before .before .before .if2 .left) _ (c .before .maps-size .ensures .0) (omega (arith, c .if4 .taken, c .before .before .if3 .left))
 
 sub-write-record : tie.Need-sub-write-record
 sub-write-record c = search needs
@@ -69,8 +73,10 @@ same-length c = search needs
 
 returns-5 : tie.Need-returns-5
 returns-5 c =
-    writes _ _ _ _ _ (c .before .before .before .before .before .before .before .before .before .before .before .map-refusal .ensures) (c .before .before .before .before .before .before .before .before .before .before .if1 .left) _ (c .before .before .before .before .before .before .before .before .before .numbers-of .ensures .0) (c .before .before .before .before .before .before .before .before .if2 .left) _
-    (c .before .before .before .before .before .before .maps-size .ensures .0) (omega (arith, c .before .before .before .before .before .if4 .left, c .before .before .before .before .before .before .before .if3 .left))
+    let d = c .before .before .before .before .before in
+    let t = d .before .before .before .before in
+    writes _ _ _ _ _ (t .before .before .map-refusal .ensures) (t .before .if1 .left) _ (t .numbers-of .ensures .0)
+    (d .before .before .before .if2 .left) _ (d .before .maps-size .ensures .0) (omega (arith, d .if4 .left, d .before .before .if3 .left))
     (c .before .before .write-record .last .0) (c .before .before .write-record .ensures)
 
 pub write-route-spec : {M : Type 1} → statement M
