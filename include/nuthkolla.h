@@ -17,7 +17,7 @@
  * 255  nuthkolla_run was asked for something that it does not know
  * of a record, which is read whole before its call or configuration is judged:
  *   5  its map is cut short, or the place is past the end
- *   6  its map has an unnamed bit, lacks the kind bit, or has half a leg
+ *   6  its map has an unnamed bit, lacks the kind bit, or has half a leg; a route's second map is empty
  *   5  it has fewer bytes than its map demands
  *   7  its kind is above 6, or its regime above 1
  * of a configuration:

@@ -1,20 +1,34 @@
 -- Each outcome of reading the maps of a route's record, what maps that were read are, and their bytes. Assumes nothing.
 use mathlib.Core.Path.{_≡_, refl, sym, ap, _∙_}
 use mathlib.Core.Bool.{Bool, true, false, cond, not}
-use mathlib.Core.List.{List, [], _∷_, _++_, append-assoc}
-use Prim.Native.Nat.{ℕ, zero, suc, _+_, _-_, _*_, _/_, _%_, _<_, _≤_, _^_}
+use mathlib.Core.List.{List, _++_, append-assoc}
+use Prim.Native.Nat.{ℕ, _+_, _-_, _/_, _%_, _<_, _≤_}
 use native.Mathlib.Omega.{arith}
-use borrow.Author.Tests.{le-leb, lt-leb, lt-ltb, le-ltb, eq-eqb, ne-eqb, ltb-true, ltb-false}
+use borrow.Author.Tests.{le-leb, lt-leb, lt-ltb, le-ltb, ltb-true, ltb-false, eqb-false}
 use borrow.Rule.Slice.PartMut.{putMid}
-use lib.Dec.{eqb, leb, ltb}
+use lib.Dec.{eqb, ltb}
 use lib.ListN.{length, drop, take, length-append, length-drop}
 use lib.Seq.{drop-drop}
-use Rattle.fields.specs.Bytes.{numberAt, bytesOf, hasBytes}
+use Rattle.fields.specs.Bytes.{numberAt, bytesOf}
 use Rattle.fields.proofs.NumberLaw.{bytes-long, number-back, drop-bytes}
 use Rattle.fields.proofs.FieldLaw.{rest-is, put-front, put-after}
-use Rattle.route_records.specs.declared.Loaded.{Loaded}
 use Rattle.route_records.specs.declared.Loaded.the-variants as loaded
-use Rattle.route_records.specs.Record.{mapRefusal, oneMap, joined, twoMaps, readMaps, mapsBytes}
+use Rattle.route_records.specs.Record.{mapRefusal, oneMap, twoMaps, readMaps, mapsBytes}
+
+-- ---- a map that is not refused
+
+-- the lowest unnamed bit is b
+pub named : (b m : ℕ) → _≡_ {A = ℕ} (cond (not (ltb m b)) 6 (cond (eqb m 0) 10 0)) 0 → (m < b) × (m ≡ 0 → ⊥)
+named b m e = go (ltb m b) refl (eqb m 0) refl e
+  where
+    go : (x : Bool) → ltb m b ≡ x → (z : Bool) → eqb m 0 ≡ z → _≡_ {A = ℕ} (cond (not x) 6 (cond z 10 0)) 0 → (m < b) × (m ≡ 0 → ⊥)
+    go true q true r w = absurd (omega arith)
+    go true q false r w = (ltb-true m b q, eqb-false m 0 r)
+    go false q z r w = absurd (omega arith)
+
+pub map-is : (m : ℕ) → mapRefusal m ≡ 0 → (m < 4611686018427387904) × (m ≡ 0 → ⊥)
+unfolding mapRefusal
+map-is m e = named 4611686018427387904 m e
 
 -- ---- one map or two
 
@@ -71,6 +85,33 @@ two-maps-long m h =
     let a = 2147483648 + m % 2147483648 in
     let b = m / 2147483648 in
     rw (two-map-bytes m h) (length-append (bytesOf 4 a) (bytesOf 4 b) ∙ omega (arith, bytes-long 4 a, bytes-long 4 b))
+
+-- ---- where maps stand
+
+module _ (s : List ℕ) (at m : ℕ) (rest : List ℕ) (e : drop at s ≡ mapsBytes m ++ rest) where
+  maps-size : length s - at ≡ length (mapsBytes m) + length rest
+  maps-size = sym (length-drop at s) ∙ ap length e ∙ length-append (mapsBytes m) rest
+
+  pub room : at + length (mapsBytes m) ≤ length s
+  room =
+      let size = maps-size in
+      either m (λ (h : m < 2147483648). omega (arith, one-map-long m h)) (λ (h : 2147483648 ≤ m). omega (arith, two-maps-long m h))
+
+  pub alone-is : m < 2147483648 → numberAt 4 (drop at s) ≡ m
+  alone-is h = rw (e, one-map-bytes m h) (number-back 4 m rest (omega arith))
+
+  module _ (h : 2147483648 ≤ m) where
+    both-are : drop at s ≡ bytesOf 4 (2147483648 + m % 2147483648) ++ (bytesOf 4 (m / 2147483648) ++ rest)
+    both-are = e ∙ rw (two-map-bytes m h) (append-assoc (bytesOf 4 (2147483648 + m % 2147483648)) (bytesOf 4 (m / 2147483648)) rest)
+
+    pub first-is : numberAt 4 (drop at s) ≡ 2147483648 + m % 2147483648
+    first-is = rw both-are (number-back 4 (2147483648 + m % 2147483648) (bytesOf 4 (m / 2147483648) ++ rest) (omega arith))
+
+    pub second-is : m < 4611686018427387904 → numberAt 4 (drop (at + 4) s) ≡ m / 2147483648
+    second-is k =
+        let after : drop (at + 4) s ≡ bytesOf 4 (m / 2147483648) ++ rest =
+        sym (drop-drop 4 at s) ∙ rw both-are (drop-bytes 4 (2147483648 + m % 2147483648) (bytesOf 4 (m / 2147483648) ++ rest)) in
+        rw after (number-back 4 (m / 2147483648) rest (omega arith))
 
 -- which of them the size tells
 pub is-one : (m k : ℕ) → k ≡ length (mapsBytes m) → k ≡ 4 → m < 2147483648

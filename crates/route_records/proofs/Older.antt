@@ -1,34 +1,27 @@
 -- What a display with the older program does with stored routes and with long ones. Assumes nothing.
-use mathlib.Core.Path.{_≡_, refl, sym, ap, subst, _∙_}
+use mathlib.Core.Path.{_≡_, refl, subst, _∙_}
 use mathlib.Core.Bool.{Bool, true, false, cond, not}
-use mathlib.Core.List.{List, [], _∷_, _++_, append-assoc}
-use Prim.Native.Nat.{ℕ, _+_, _-_, _*_, _/_, _%_, _<_, _≤_, _^_}
+use mathlib.Core.List.{List, _++_, append-assoc}
+use Prim.Native.Nat.{ℕ, _+_, _*_, _%_, _<_, _≤_}
 use native.Mathlib.Omega.{arith}
-use borrow.Author.Tests.{le-leb, lt-ltb, le-ltb, ne-eqb, eqb-true, eqb-false, ltb-true, leb-true}
-use lib.Dec.{eqb, leb, ltb}
-use lib.ListN.{length, drop, take, length-append, length-drop}
+use borrow.Author.Tests.{le-leb, lt-ltb, le-ltb, ne-eqb, eqb-true, leb-true}
+use lib.Dec.{eqb, leb}
+use lib.ListN.{length, drop, take}
 use lib.Seq.{drop-at, length-take-le}
 use lib.Ieee.{Float}
-use Rattle.fields.specs.Bytes.{numberAt, bytesOf, hasBytes, putAt}
+use Rattle.fields.specs.Bytes.{numberAt, hasBytes, putAt}
 use Rattle.fields.specs.Writing.{answerOf, bufferOf}
 use Rattle.fields.specs.declared.Written.the-variants as written
-use Rattle.fields.proofs.NumberLaw.{number-back}
 use Rattle.route_records.specs.declared.Loaded.the-variants as loaded
-use Rattle.route_records.specs.Record.{Route, numberCount, mapRefusal, oneMap, readMaps, readPoints, numbersAt, allFinite, RouteRead, refused, read, readRoute, numberBytes, mapsBytes, routeRecord, routeOf, writeAnswer, writeBuffer}
+use Rattle.route_records.specs.Record.{Route, numberCount, mapRefusal, oneMap, readMaps, readPoints, numbersAt, allFinite, refused, read, readRoute, numberBytes, mapsBytes, routeRecord, routeOf, writeAnswer, writeBuffer}
 use Rattle.route_records.specs.Older.{olderMapRefusal, olderReadRoute, olderRouteRecord}
-use Rattle.route_records.specs.Laws.{AreBytes, StoredKept, OlderDisplay, RouteKept}
-use Rattle.route_records.proofs.MapsLaw.{one-map-bytes, two-map-bytes, two-maps-long}
-use Rattle.route_records.proofs.RecordLaw.{record-size}
-use Rattle.route_records.proofs.RouteBack.{route-kept}
+use Rattle.route_records.specs.Laws.{AreBytes, StoredKept, OlderDisplay}
+use Rattle.route_records.proofs.MapsLaw.{named, one-map-bytes, two-maps-long, room, first-is}
+use Rattle.route_records.proofs.RouteBack.{record-is, route-kept}
 
 older-map : (m : ℕ) → olderMapRefusal m ≡ 0 → (m < 2147483648) × (m ≡ 0 → ⊥)
 unfolding olderMapRefusal
-older-map m e = go (ltb m 2147483648) refl (eqb m 0) refl e
-  where
-    go : (b : Bool) → ltb m 2147483648 ≡ b → (z : Bool) → eqb m 0 ≡ z → _≡_ {A = ℕ} (cond (not b) 6 (cond z 10 0)) 0 → (m < 2147483648) × (m ≡ 0 → ⊥)
-    go true q true r w = absurd (omega arith)
-    go true q false r w = (ltb-true m 2147483648 q, eqb-false m 0 r)
-    go false q z r w = absurd (omega arith)
+older-map m e = named 2147483648 m e
 
 -- ---- stored routes
 
@@ -85,29 +78,18 @@ module _ (s : List ℕ) (at : ℕ) (r : Route) (next : ℕ) (e : olderReadRoute 
 -- ---- long routes
 
 module _ (s : List ℕ) (at : ℕ) (r : Route) (rest : List ℕ) (h : 2147483648 ≤ r .map) (e : drop at s ≡ routeRecord r ++ rest) where
-  abbrev A : ℕ
-  A = 2147483648 + r .map % 2147483648
-
   abbrev Tail : List ℕ
-  Tail = (bytesOf 4 (r .map / 2147483648) ++ numberBytes (r .numbers)) ++ rest
+  Tail = numberBytes (r .numbers) ++ rest
 
-  starts : drop at s ≡ bytesOf 4 A ++ Tail
-  unfolding routeRecord
-  starts =
-      e ∙ rw (two-map-bytes (r .map) h, append-assoc (bytesOf 4 A) (bytesOf 4 (r .map / 2147483648)) (numberBytes (r .numbers)))
-      (append-assoc (bytesOf 4 A) (bytesOf 4 (r .map / 2147483648) ++ numberBytes (r .numbers)) rest)
-
-  room : at + 4 ≤ length s
-  room =
-      let size : length s - at ≡ length (routeRecord r) + length rest = sym (length-drop at s) ∙ ap length e ∙ length-append (routeRecord r) rest in
-      omega (arith, record-size r, two-maps-long (r .map) h)
-
-  first : numberAt 4 (drop at s) ≡ A
-  first = rw starts (number-back 4 A Tail (omega arith))
+  starts : drop at s ≡ mapsBytes (r .map) ++ Tail
+  starts = e ∙ rw (record-is r) (append-assoc (mapsBytes (r .map)) (numberBytes (r .numbers)) rest)
 
   pub refuses : olderReadRoute s at ≡ refused 6
   unfolding olderReadRoute olderMapRefusal
-  refuses = rw (le-leb (at + 4) (length s) room, first, le-ltb A 2147483648 (omega arith))
+  refuses =
+      let fits : at + 4 ≤ length s = omega (arith, room s at (r .map) Tail starts, two-maps-long (r .map) h) in
+      let first = first-is s at (r .map) Tail starts h in
+      rw (le-leb (at + 4) (length s) fits, first, le-ltb (2147483648 + r .map % 2147483648) 2147483648 (omega arith))
 
 no-place : {A : Type 0} (k next : ℕ) → written.Refused k ≡ written.Next next → A
 no-place k next e = let z : _≡_ {A = ℕ} 0 1 = cc in absurd (omega arith)

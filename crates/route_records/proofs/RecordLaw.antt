@@ -1,24 +1,23 @@
 -- Each outcome of loading and of writing a route. Assumes nothing.
 use mathlib.Core.Path.{_≡_, refl, sym, ap, _∙_}
-use mathlib.Core.Bool.{Bool, true, false, cond, not}
-use mathlib.Core.List.{List, [], _∷_, _++_}
+use mathlib.Core.Bool.{Bool, true, false}
+use mathlib.Core.List.{List, _++_}
 use Prim.Native.Nat.{ℕ, _+_, _-_, _*_, _<_, _≤_}
 use native.Mathlib.Omega.{arith}
-use borrow.Author.Tests.{le-leb, lt-leb, eq-eqb, ne-eqb}
-use borrow.Rule.Slice.PartMut.{putMid, post-is}
+use borrow.Author.Tests.{le-leb, lt-leb, ne-eqb}
+use borrow.Rule.Slice.PartMut.{putMid}
 use lib.ListN.{length, drop, take, length-append, length-drop}
 use lib.Seq.{length-take-le}
 use lib.Ieee.{Float}
-use Rattle.fields.specs.Bytes.{numberAt, bytesOf, putAt}
+use Rattle.fields.specs.Bytes.{putAt}
 use Rattle.fields.specs.Writing.{answerOf, bufferOf}
 use Rattle.fields.specs.declared.Written.{Written}
 use Rattle.fields.specs.declared.Written.the-variants as written
-use Rattle.fields.proofs.NumberLaw.{bytes-long}
 use Rattle.fields.proofs.FieldLaw.{rest-is}
 use Rattle.fields.proofs.WriteLaw as write
 use Rattle.route_records.specs.declared.Loaded.{Loaded}
 use Rattle.route_records.specs.declared.Loaded.the-variants as loaded
-use Rattle.route_records.specs.Record.{Route, numberCount, mapRefusal, numbersAt, allFinite, RouteRead, refused, read, readMaps, readPoints, readRoute, answerTo, bufferTo, loadAnswer, loadBuffer, numberBytes, mapsBytes, routeRecord, routeOf, writeAnswer, writeBuffer}
+use Rattle.route_records.specs.Record.{Route, numberCount, mapRefusal, numbersAt, allFinite, RouteRead, refused, read, readMaps, readPoints, readRoute, answerTo, bufferTo, loadAnswer, loadBuffer, numberBytes, mapsBytes, routeRecord, writeAnswer, writeBuffer}
 use Rattle.route_records.proofs.NumbersLaw.{numbers-long, bytes-size}
 
 -- n numbers in hand, and their bytes in what is left of a slice

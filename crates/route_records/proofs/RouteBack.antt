@@ -9,7 +9,7 @@ use borrow.Author.Tests.{le-leb, lt-ltb, le-ltb, ne-eqb, eqb-false, ltb-true, lt
 use lib.Dec.{T, eqb, ltb}
 use lib.ListN.{length, drop, take, replicate, length-append, length-drop, length-replicate}
 use lib.Seq.{drop-at, drop-drop, take-add}
-use lib.Ieee.{Float, binary32, ofBits, toBits, isNan, fits}
+use lib.Ieee.{Float, binary32, ofBits, toBits, fits}
 use lib.Ieee.Bits.{ofBits-toBits, toBits-ofBits, toBits-lt, ofBits-fits}
 use Rattle.arithmetic.specs.Constants.{n0}
 use Rattle.arithmetic.specs.Order.{finite}
@@ -22,28 +22,17 @@ use Rattle.fields.proofs.FieldLaw.{ones-le, ones-below}
 use Rattle.fields.proofs.LawsProof.{laws}
 use Rattle.route_records.specs.declared.Loaded.{Loaded}
 use Rattle.route_records.specs.declared.Loaded.the-variants as loaded
-use Rattle.route_records.specs.Record.{Route, numberCount, mapRefusal, joined, oneMap, twoMaps, readMaps, readPoints, numbersAt, allFinite, RouteRead, refused, read, readRoute, numberBytes, mapsBytes, routeRecord}
+use Rattle.route_records.specs.Record.{Route, numberCount, mapRefusal, joined, oneMap, twoMaps, readMaps, readPoints, numbersAt, allFinite, refused, read, readRoute, numberBytes, mapsBytes, routeRecord}
 use Rattle.route_records.specs.Laws.{IsRoute, RouteLaws, AreBytes, RouteKept}
-use Rattle.route_records.proofs.NumbersLaw.{numbers-long, bytes-size}
-use Rattle.route_records.proofs.MapsLaw.{either, one-map-bytes, two-map-bytes, one-map-long, two-maps-long}
+use Rattle.route_records.proofs.NumbersLaw.{numbers-long}
+use Rattle.route_records.proofs.MapsLaw.{map-is, either, one-map-bytes, two-map-bytes, one-map-long, two-maps-long, room, alone-is, first-is, second-is}
 use Rattle.route_records.proofs.RecordLaw.{record-size}
 
 -- ---- a map that is not refused
 
-module _ (m : ℕ) (e : mapRefusal m ≡ 0) where
-  map-is : (m < 4611686018427387904) × (m ≡ 0 → ⊥)
-  unfolding mapRefusal
-  map-is = go (ltb m 4611686018427387904) refl (eqb m 0) refl e
-    where
-      go : (b : Bool) → ltb m 4611686018427387904 ≡ b → (z : Bool) → eqb m 0 ≡ z → _≡_ {A = ℕ} (cond (not b) 6 (cond z 10 0)) 0
-          → (m < 4611686018427387904) × (m ≡ 0 → ⊥)
-      go true q true r w = absurd (omega arith)
-      go true q false r w = (ltb-true m 4611686018427387904 q, eqb-false m 0 r)
-      go false q z r w = absurd (omega arith)
-
-  count-le : numberCount m ≤ 248
-  unfolding numberCount
-  count-le = omega (arith, ones-below 62 2 m (map-is .0), ones-le 62 m)
+count-le : (m : ℕ) → mapRefusal m ≡ 0 → numberCount m ≤ 248
+unfolding numberCount
+count-le m e = omega (arith, ones-below 62 2 m (map-is m e .0), ones-le 62 m)
 
 not-refused : (m : ℕ) → m < 4611686018427387904 → (m ≡ 0 → ⊥) → mapRefusal m ≡ 0
 unfolding mapRefusal
@@ -60,37 +49,33 @@ numbers-back (x ∷ xs) rest h =
     rw (append-assoc (bytesOf 4 b) (numberBytes xs) rest, drop-bytes 4 b (numberBytes xs ++ rest), number-back 4 b (numberBytes xs ++ rest) below, ofBits-toBits binary32 x (h .0))
     (ap (λ (l : List Float). x ∷ l) (numbers-back xs rest (h .1)))
 
-module _ (s : List ℕ) (at m : ℕ) (rest : List ℕ) (l : at ≤ length s) (e : drop at s ≡ mapsBytes m ++ rest) (ok : mapRefusal m ≡ 0) where
-  room : at + length (mapsBytes m) ≤ length s
-  room =
-      let size : length s - at ≡ length (mapsBytes m) + length rest = sym (length-drop at s) ∙ ap length e ∙ length-append (mapsBytes m) rest in
-      omega arith
-
+module _ (s : List ℕ) (at m : ℕ) (rest : List ℕ) (e : drop at s ≡ mapsBytes m ++ rest) (ok : mapRefusal m ≡ 0) where
   one-stands : m < 2147483648 → readMaps s at ≡ loaded.Read m (at + 4)
   unfolding readMaps oneMap
   one-stands h =
-      let whole : drop at s ≡ bytesOf 4 m ++ rest = e ∙ rw (one-map-bytes m h) in
-      let first : numberAt 4 (drop at s) ≡ m = rw whole (number-back 4 m rest (omega arith)) in
-      rw (le-leb (at + 4) (length s) (omega (arith, room, one-map-long m h)), first, lt-ltb m 2147483648 h, ne-eqb m 0 (map-is m ok .1))
+      rw (
+        le-leb (at + 4) (length s) (omega (arith, room s at m rest e, one-map-long m h)),
+        alone-is s at m rest e h,
+        lt-ltb m 2147483648 h,
+        ne-eqb m 0 (map-is m ok .1),
+      )
 
   two-stand : 2147483648 ≤ m → readMaps s at ≡ loaded.Read m (at + 8)
   unfolding readMaps twoMaps
   two-stand h =
       let a = 2147483648 + m % 2147483648 in
       let b = m / 2147483648 in
-      let whole : drop at s ≡ bytesOf 4 a ++ (bytesOf 4 b ++ rest) = e ∙ rw (two-map-bytes m h) (append-assoc (bytesOf 4 a) (bytesOf 4 b) rest) in
-      let after : drop (at + 4) s ≡ bytesOf 4 b ++ rest = sym (drop-drop 4 at s) ∙ rw whole (drop-bytes 4 a (bytesOf 4 b ++ rest)) in
-      let first : numberAt 4 (drop at s) ≡ a = rw whole (number-back 4 a (bytesOf 4 b ++ rest) (omega arith)) in
-      let second : numberAt 4 (drop (at + 4) s) ≡ b = rw after (number-back 4 b rest (omega (arith, map-is m ok .0))) in
+      let low = map-is m ok .0 in
+      let fits : at + 8 ≤ length s = omega (arith, room s at m rest e, two-maps-long m h) in
       let some : b ≡ 0 → ⊥ = λ (z : b ≡ 0). omega arith in
       let back : joined a b ≡ m = omega arith in
       rw (
-        le-leb (at + 4) (length s) (omega (arith, room, two-maps-long m h)),
-        first,
+        le-leb (at + 4) (length s) (omega arith),
+        first-is s at m rest e h,
         le-ltb a 2147483648 (omega arith),
-        le-leb (at + 8) (length s) (omega (arith, room, two-maps-long m h)),
-        second,
-        lt-ltb b 2147483648 (omega (arith, map-is m ok .0)),
+        le-leb (at + 8) (length s) fits,
+        second-is s at m rest e h low,
+        lt-ltb b 2147483648 (omega (arith, low)),
         ne-eqb b 0 some,
         back,
       )
@@ -99,7 +84,7 @@ module _ (s : List ℕ) (at m : ℕ) (rest : List ℕ) (l : at ≤ length s) (e 
   maps-stand =
       either m (λ (h : m < 2147483648). one-stands h ∙ rw (one-map-long m h)) (λ (h : 2147483648 ≤ m). two-stand h ∙ rw (two-maps-long m h))
 
-record-is : (r : Route) → routeRecord r ≡ mapsBytes (r .map) ++ numberBytes (r .numbers)
+pub record-is : (r : Route) → routeRecord r ≡ mapsBytes (r .map) ++ numberBytes (r .numbers)
 unfolding routeRecord
 record-is r = refl
 
@@ -116,7 +101,7 @@ stands-at s at r rest h e f =
     let next : at + k + 4 * length xs ≡ at + length (routeRecord r) = omega (arith, record-size r) in
     let fits : at + k + 4 * length xs ≤ length s = omega (arith, record-size r) in
     rw (
-      maps-stand s at m (numberBytes xs ++ rest) h whole (f .map),
+      maps-stand s at m (numberBytes xs ++ rest) whole (f .map),
       ← f .long,
       le-leb (at + k + 4 * length xs) (length s) fits,
       after,
