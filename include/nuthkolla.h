@@ -17,7 +17,7 @@
  * 255  nuthkolla_run was asked for something that it does not know
  * of a record, which is read whole before its call or configuration is judged:
  *   5  its map is cut short, or the place is past the end
- *   6  its map has an unnamed bit, lacks the kind bit, or has half a leg
+ *   6  its map has an unnamed bit, lacks the kind bit, or has half a leg; a route's second map is empty
  *   5  it has fewer bytes than its map demands
  *   7  its kind is above 6, or its regime above 1
  * of a configuration:
@@ -234,10 +234,11 @@ nuthkolla_config_read nuthkolla_read_config(const uint8_t *bytes, size_t length,
 
 /* ---- routes */
 
-/* A route has up to 31 points. Its record is a 4-byte map, bits 0 to 30, then 16 bytes for each standing point: north, east, altitude,
- * cruise speed. Standing points are numbered from 1 in bit order. The host holds the map and the number, and lends the points'
- * numbers, four a point, so that a call copies none of them. */
-enum { NUTHKOLLA_ROUTE_BYTES = 500, NUTHKOLLA_ROUTE_NUMBERS = 124 };
+/* A route has up to 62 points. Its record is a 4-byte map, bits 0 to 30, whose bit 31 says that a second 4-byte map follows it, for 31
+ * more points; then 16 bytes for each standing point: north, east, altitude, cruise speed. Standing points are numbered from 1 in bit
+ * order, those of the second map after those of the first. The host holds the two maps as one, bits 31 to 61 of it being bits 0 to 30
+ * of the second, and the number, and lends the points' numbers, four a point, so that a call copies none of them. */
+enum { NUTHKOLLA_ROUTE_BYTES = 1000, NUTHKOLLA_ROUTE_NUMBERS = 248 };
 
 typedef struct nuthkolla_route {
     uint64_t map;    /* 0: no route is loaded */
@@ -272,17 +273,17 @@ typedef struct nuthkolla_route_answer {
 } nuthkolla_route_answer;
 
 /* Loads a route's record from the place `at` on: its numbers go to the front of `numbers`, the others are kept. Refusals, in this
- * order: 5 for a map cut short, 6 for bit 31, 10, 5 for fewer bytes than the map demands, 11, 8 for too few `numbers`. A refused
- * loading changes none of them. */
+ * order: 5 for a map cut short; 6 for a second map with bit 31 or with no bit, 10 where there is no second map and the first is empty;
+ * 5 for fewer bytes than the maps demand, 11, 8 for too few `numbers`. A refused loading changes none of them. */
 nuthkolla_route_loaded nuthkolla_load_route(const uint8_t *bytes, size_t length, size_t at, float *numbers, size_t count);
 
 /* One route call on the host's guidance: moves on by one point where the point is passed, then flies to the point reached.
- * Refusals: 7 for a regime above 1, 6 for bit 31 or more of the map, 10, 5 for fewer `numbers` than the map demands; then 2, 3, 4 of
+ * Refusals: 7 for a regime above 1, 6 for bit 62 or 63 of the map, 10, 5 for fewer `numbers` than the map demands; then 2, 3, 4 of
  * the guide call. A refused call keeps guidance and number. What is proved of lists of calls is in docs/HOST.md. */
 nuthkolla_route_answer nuthkolla_run_route(nuthkolla_guidance *guidance, nuthkolla_route_call call, const float *numbers, size_t count);
 
-/* Writes a route's record into `out` from the place `at` on; other bytes are kept. Refusals 6, 10, 5, then 8. Of a route that was
- * loaded these are the bytes that were read. */
+/* Writes a route's record into `out` from the place `at` on; other bytes are kept. Refusals 6, 10, 5, then 8. There is a second map only
+ * where one of its bits stands. Of a route that was loaded these are the bytes that were read. */
 nuthkolla_place nuthkolla_write_route(uint8_t *out, size_t length, size_t at, uint64_t map, const float *numbers, size_t count);
 
 /* ---- recordings: a configuration's record and the records of up to 4,096 calls */

@@ -30,18 +30,18 @@ int main(void)
     static uint8_t records[STATES][NUTHKOLLA_CALL_BYTES];
     static size_t lengths[STATES];
     static double route_ns[ROUNDS], guide_ns[ROUNDS];
-    /* 31 points along a line to the north; the plane is before point 16, so that the test is worked out and is not met */
-    nuthkolla_route route = {.map = 0x7fffffff, .number = 16};
-    for (int i = 0; i < 31; i++) {
+    /* 62 points along a line to the north; the plane is before point 48, so that the test is worked out and is not met */
+    nuthkolla_route route = {.map = 0x3fffffffffffffff, .number = 48};
+    for (int i = 0; i < 62; i++) {
         float point[4] = {100.0f * (float)i, 10.0f * (float)(i % 2), 80.0f, 17.0f};
         memcpy(route.numbers + 4 * i, point, sizeof point);
     }
     for (int i = 0; i < STATES; i++) {
         float along = (float)(i % 90), off = (float)(i % 37) - 18.0f;
-        nuthkolla_vec3 position = {1405.0f + along, off, 78.0f + (float)(i % 5)}, velocity = {15.0f, 0.1f * off, 0.3f};
+        nuthkolla_vec3 position = {4605.0f + along, off, 78.0f + (float)(i % 5)}, velocity = {15.0f, 0.1f * off, 0.3f};
         calls[i] = (nuthkolla_route_call){.map = route.map, .number = route.number, .regime = 1, .dt = 0.1f, .position_m = position,
             .velocity_mps = velocity, .roll_rad = 0.02f * off, .has_airspeed = 1, .airspeed_mps = 15.5f + 0.01f * (float)(i % 200)};
-        const float *to = route.numbers + 60, *from = route.numbers + 56;
+        const float *to = route.numbers + 188, *from = route.numbers + 184;
         nuthkolla_call made = {.kind = NUTHKOLLA_WAYPOINT, .regime = 1, .dt = 0.1f, .waypoint_north_m = to[0], .waypoint_east_m = to[1],
             .has_leg = 1, .leg_north_mps = to[0] - from[0], .leg_east_mps = to[1] - from[1], .altitude_m = to[2], .cruise_speed_mps = to[3],
             .position_m = position, .velocity_mps = velocity, .roll_rad = 0.02f * off, .has_airspeed = 1,
@@ -56,7 +56,7 @@ int main(void)
     for (int round = 0; round < ROUNDS; round++) {
         double start = now();
         for (int i = 0; i < CALLS; i++)
-            differ += nuthkolla_run_route(&a, calls[i % STATES], route.numbers, NUTHKOLLA_ROUTE_NUMBERS).number != 16;
+            differ += nuthkolla_run_route(&a, calls[i % STATES], route.numbers, NUTHKOLLA_ROUTE_NUMBERS).number != 48;
         double middle = now();
         for (int i = 0; i < CALLS; i++)
             differ += nuthkolla_run(&b, NUTHKOLLA_CALL, records[i % STATES], lengths[i % STATES]).refusal != 0;

@@ -52,7 +52,7 @@ static void load(unsigned long n, const uint8_t *p, size_t length)
     }
     route.map = l.map;
     route.number = l.number;
-    printf("%lu loaded %08x %zu\n", n, (unsigned)l.map, l.next);
+    printf("%lu loaded %016llx %zu\n", n, (unsigned long long)l.map, l.next);
 }
 
 static void fly(unsigned long n, const uint8_t *p)

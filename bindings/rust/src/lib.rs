@@ -29,9 +29,9 @@ pub const CALL_BYTES: usize = 86;
 /// The greatest length of a configuration record.
 pub const CONFIG_BYTES: usize = 137;
 /// The greatest length of a route record.
-pub const ROUTE_BYTES: usize = 500;
+pub const ROUTE_BYTES: usize = 1000;
 /// The numbers of the points of the longest route, four a point.
-pub const ROUTE_NUMBERS: usize = 124;
+pub const ROUTE_NUMBERS: usize = 248;
 
 /// The greatest number of steps of a drawn path.
 pub const PATH_STEPS: usize = 600;
@@ -258,7 +258,7 @@ impl PlaneGuidance {
     }
 }
 
-/// A route: up to 31 points, and the number of the point that is flown to.
+/// A route: up to 62 points, and the number of the point that is flown to.
 ///
 /// ```
 /// use nuthkolla::{FlightRegime, PlaneGuidance, PlaneGuidanceConfig, Refusal, Route, VehicleState};
@@ -279,6 +279,12 @@ impl PlaneGuidance {
 /// route.write(&mut again, 0)?;
 /// assert_eq!(again[..], record[..]);
 /// assert_eq!(Route::load(&[0, 0, 0, 0], 0), Err(Refusal::NoPoint));
+///
+/// // bit 31 of the first map: a second follows, here with bit 0
+/// let long = [&[1, 0, 0, 128, 1, 0, 0, 0], &record[4..]].concat();
+/// let (route, next) = Route::load(&long, 0)?;
+/// assert_eq!((next, route.map(), route.points().count()), (40, 1 | 1 << 31, 2));
+/// assert_eq!(Route::load(&[1, 0, 0, 128, 0, 0, 0, 0], 0), Err(Refusal::Map));
 /// # Ok::<(), Refusal>(())
 /// ```
 #[derive(Clone, Debug, PartialEq)]
@@ -310,7 +316,7 @@ impl Route {
         self.number
     }
 
-    /// Bit n says whether point n of the record stands.
+    /// Which points stand: bits 0 to 30 are those of the record's first map, bits 31 to 61 are bits 0 to 30 of the second.
     pub fn map(&self) -> u64 {
         self.map
     }

@@ -371,7 +371,7 @@ pub enum Refusal {
     NotFinite,
     /// 5: a record has fewer bytes than its map demands, or its map is cut short.
     Short,
-    /// 6: a record's map has an unnamed bit, lacks the kind bit, or has half a leg.
+    /// 6: a record's map has an unnamed bit, lacks the kind bit, or has half a leg; or a route's second map is empty.
     Map,
     /// 7: a kind is above 6, or a regime above 1.
     Kind,

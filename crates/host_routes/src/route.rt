@@ -1,4 +1,5 @@
-// Routes for a host, which holds a route's map and number and lends the numbers of its points, four a point.
+// Routes for a host, which holds a route's map and number and lends the numbers of its points, four a point. The map is that of both
+// maps of a record, 62 bits.
 use call_numbers::option_of;
 use call_numbers::regime_of;
 use guidance::plane::PlaneGuidance;

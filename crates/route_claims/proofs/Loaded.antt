@@ -63,5 +63,5 @@ flies =
       flies = λ g map n numbers k e.
           let long = points-long (ones 64 map) numbers in
           let some = lent-gives map (length numbers) 0 (sym e) (omega arith) in
-          (rw long (some .0), λ (h : 1 ≤ n) (l : n ≤ length (pointsOf (ones 64 map) numbers) + 1). fly-is g map n numbers k e h (omega (arith, long)));
+          (rw long (some .0), rw long (some .2), λ (h : 1 ≤ n) (l : n ≤ length (pointsOf (ones 64 map) numbers) + 1). fly-is g map n numbers k e h (omega (arith, long)));
     }

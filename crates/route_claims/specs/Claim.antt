@@ -59,8 +59,8 @@ pub record RouteDemand3 (ps : List Point) (c : PlaneGuidanceConfig) (calls : Lis
   pub same-guidance : flightAfter ps (loaded (fresh c)) calls .guidance ≡ after (fresh c) (allMade ps (loaded (fresh c)) calls)
   pub demand3 : Demand3 c (allMade ps (loaded (fresh c)) calls)
 
--- The claim speaks of what the contracts promise: a route that was loaded into lent numbers is never refused, and flying it by these
--- numbers, at a number from 1 to one past the last point, is the route call over its points.
+-- The claim speaks of what the contracts promise: a route that was loaded into lent numbers is never refused, it has from 1 to 62 points,
+-- and flying it by these numbers, at a number from 1 to one past the last point, is the route call over its points.
 pub record Flies : Type 0 where
   pub loads :
       (s : List ℕ) (at : ℕ) (out : List Float) (map next : ℕ) → loadAnswer s at out ≡ answer.Read map next
@@ -68,4 +68,4 @@ pub record Flies : Type 0 where
   pub flies :
       (g : PlaneGuidance) (map n : ℕ) (numbers : List Float) (k : RouteCall) → lentRefusal map (length numbers) ≡ 0
       → let ps = pointsOf (ones 64 map) numbers in
-      (1 ≤ length ps) × (1 ≤ n → n ≤ length ps + 1 → fly g (record { map = map; number = n }) numbers k ≡ routeCall g ps n k)
+      (1 ≤ length ps) × (length ps ≤ 62) × (1 ≤ n → n ≤ length ps + 1 → fly g (record { map = map; number = n }) numbers k ≡ routeCall g ps n k)

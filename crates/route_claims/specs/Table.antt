@@ -8,6 +8,7 @@ use lib.Ieee.{Float, nan}
 use Rattle.arithmetic.specs.Constants.{f32, n0}
 use Rattle.arithmetic.specs.declared.vector.Vec2.{Vec2}
 use Rattle.route_records.specs.Record.{RouteRead, refused, read, readRoute}
+use Rattle.route_records.specs.Older.{olderReadRoute}
 use Rattle.routes.specs.Route.{meets}
 use Rattle.routes.specs.declared.Point.{Point}
 
@@ -108,11 +109,11 @@ wanted (c ∷ cs) = c .moves ∷ wanted cs
 abbrev pub TestTable : Type 0
 TestTable = found cases ≡ wanted cases
 
--- ---- loading: the refusal's number, or 0 and how many numbers were read
+-- ---- loading: the refusal's number, or 0, the route's map, how many numbers were read, and the place after the record
 
 abbrev pub outcome : RouteRead → List ℕ
 outcome (refused n) = n ∷ []
-outcome (read r next) = 0 ∷ length (r .numbers) ∷ next ∷ []
+outcome (read r next) = 0 ∷ r .map ∷ length (r .numbers) ∷ next ∷ []
 
 -- sixteen bytes of a point, each 0, and the same with the first number NaN or infinite
 abbrev pub still : List ℕ
@@ -125,29 +126,65 @@ pub record Load : Type 0 where
   pub bytes : List ℕ
   pub gives : List ℕ
 
-abbrev pub loads : List Load
-loads =
+-- without bit 31, to the older reader too
+abbrev pub stored : List Load
+stored =
     record { bytes = []; gives = 5 ∷ [] } ∷
     record { bytes = 255 ∷ 255 ∷ 255 ∷ []; gives = 5 ∷ [] } ∷
-    -- bit 31, also where the length is short; then the empty map, before the length
-    record { bytes = 1 ∷ 0 ∷ 0 ∷ 128 ∷ []; gives = 6 ∷ [] } ∷
-    record { bytes = 0 ∷ 0 ∷ 0 ∷ 128 ∷ []; gives = 6 ∷ [] } ∷
+    -- the empty map, before the length
     record { bytes = 0 ∷ 0 ∷ 0 ∷ 0 ∷ []; gives = 10 ∷ [] } ∷
     record { bytes = 1 ∷ 0 ∷ 0 ∷ 0 ∷ replicate 15 0; gives = 5 ∷ [] } ∷
     -- 11 after 5: NaN and infinity; one point, and two with a gap between them
     record { bytes = 3 ∷ 0 ∷ 0 ∷ 0 ∷ odd 192; gives = 5 ∷ [] } ∷
     record { bytes = 1 ∷ 0 ∷ 0 ∷ 0 ∷ odd 192; gives = 11 ∷ [] } ∷
     record { bytes = 1 ∷ 0 ∷ 0 ∷ 0 ∷ odd 128; gives = 11 ∷ [] } ∷
-    record { bytes = 1 ∷ 0 ∷ 0 ∷ 0 ∷ still; gives = 0 ∷ 4 ∷ 20 ∷ [] } ∷
-    record { bytes = 1 ∷ 0 ∷ 0 ∷ 64 ∷ still ++ still ++ (7 ∷ []); gives = 0 ∷ 8 ∷ 36 ∷ [] } ∷ []
+    record { bytes = 1 ∷ 0 ∷ 0 ∷ 0 ∷ still; gives = 0 ∷ 1 ∷ 4 ∷ 20 ∷ [] } ∷
+    record { bytes = 1 ∷ 0 ∷ 0 ∷ 64 ∷ still ++ still ++ (7 ∷ []); gives = 0 ∷ 1073741825 ∷ 8 ∷ 36 ∷ [] } ∷ []
 
-unfoldable pub outcomes : List Load → List (List ℕ)
-outcomes [] = []
-outcomes (l ∷ ls) = outcome (readRoute (l .bytes) 0) ∷ outcomes ls
+-- a point of each map: bit 0 of the first, bits 0 and 30 of the second; and sixty-two points
+abbrev pub threePoints : List ℕ
+threePoints = 1 ∷ 0 ∷ 0 ∷ 128 ∷ 1 ∷ 0 ∷ 0 ∷ 64 ∷ still ++ still ++ still ++ (7 ∷ [])
+
+abbrev pub allPoints : List ℕ
+allPoints = 255 ∷ 255 ∷ 255 ∷ 255 ∷ 255 ∷ 255 ∷ 255 ∷ 127 ∷ replicate 992 0
+
+-- with bit 31
+abbrev pub long : List Load
+long =
+    -- the second map cut short, whatever the first names
+    record { bytes = 1 ∷ 0 ∷ 0 ∷ 128 ∷ []; gives = 5 ∷ [] } ∷
+    record { bytes = 0 ∷ 0 ∷ 0 ∷ 128 ∷ 0 ∷ 0 ∷ 0 ∷ []; gives = 5 ∷ [] } ∷
+    -- its being empty, also beside an empty first map and before the length; its bit 31
+    record { bytes = 1 ∷ 0 ∷ 0 ∷ 128 ∷ 0 ∷ 0 ∷ 0 ∷ 0 ∷ still; gives = 6 ∷ [] } ∷
+    record { bytes = 0 ∷ 0 ∷ 0 ∷ 128 ∷ 0 ∷ 0 ∷ 0 ∷ 0 ∷ []; gives = 6 ∷ [] } ∷
+    record { bytes = 1 ∷ 0 ∷ 0 ∷ 128 ∷ 1 ∷ 0 ∷ 0 ∷ 128 ∷ still ++ still; gives = 6 ∷ [] } ∷
+    record { bytes = 0 ∷ 0 ∷ 0 ∷ 128 ∷ 0 ∷ 0 ∷ 0 ∷ 128 ∷ []; gives = 6 ∷ [] } ∷
+    -- the length by both maps; 11 after it
+    record { bytes = 1 ∷ 0 ∷ 0 ∷ 128 ∷ 1 ∷ 0 ∷ 0 ∷ 0 ∷ odd 192; gives = 5 ∷ [] } ∷
+    record { bytes = 1 ∷ 0 ∷ 0 ∷ 128 ∷ 1 ∷ 0 ∷ 0 ∷ 0 ∷ still ++ odd 192; gives = 11 ∷ [] } ∷
+    -- an empty first map beside a second; points in both; sixty-two
+    record { bytes = 0 ∷ 0 ∷ 0 ∷ 128 ∷ 1 ∷ 0 ∷ 0 ∷ 0 ∷ still; gives = 0 ∷ 2147483648 ∷ 4 ∷ 24 ∷ [] } ∷
+    record { bytes = threePoints; gives = 0 ∷ 2305843011361177601 ∷ 12 ∷ 56 ∷ [] } ∷
+    record { bytes = allPoints; gives = 0 ∷ 4611686018427387903 ∷ 248 ∷ 1000 ∷ [] } ∷ []
+
+-- bit 31 to the older reader, also where the length is short
+abbrev pub refusedBefore : List Load
+refusedBefore =
+    record { bytes = 1 ∷ 0 ∷ 0 ∷ 128 ∷ []; gives = 6 ∷ [] } ∷
+    record { bytes = 0 ∷ 0 ∷ 0 ∷ 128 ∷ []; gives = 6 ∷ [] } ∷
+    record { bytes = threePoints; gives = 6 ∷ [] } ∷
+    record { bytes = allPoints; gives = 6 ∷ [] } ∷ []
+
+unfoldable pub outcomes : (List ℕ → ℕ → RouteRead) → List Load → List (List ℕ)
+outcomes reader [] = []
+outcomes reader (l ∷ ls) = outcome (reader (l .bytes) 0) ∷ outcomes reader ls
 
 unfoldable pub expected : List Load → List (List ℕ)
 expected [] = []
 expected (l ∷ ls) = l .gives ∷ expected ls
 
 abbrev pub LoadTable : Type 0
-LoadTable = outcomes loads ≡ expected loads
+LoadTable = outcomes readRoute (stored ++ long) ≡ expected (stored ++ long)
+
+abbrev pub OlderTable : Type 0
+OlderTable = outcomes olderReadRoute (stored ++ refusedBefore) ≡ expected (stored ++ refusedBefore)

@@ -1,3 +1,4 @@
--- Document 02, K2: the route record.
+-- Document 02, K2 and K10: the route record.
 pub mod Record
+pub mod Older
 pub mod Laws

@@ -1,21 +1,21 @@
 -- A route's points among lent numbers, and each case of the test, of the waypoint and of lent numbers' refusal. Assumes nothing.
-use mathlib.Core.Path.{_≡_, refl, sym, ap, _∙_}
+use mathlib.Core.Path.{_≡_, refl, ap, _∙_}
 use mathlib.Core.Bool.{Bool, true, false, cond, not}
-use mathlib.Core.List.{List, [], _∷_}
+use mathlib.Core.List.{List}
 use Prim.Native.Nat.{ℕ, zero, suc, _+_, _-_, _*_, _/_, _%_, _<_, _≤_, _^_}
 use native.Mathlib.Omega.{arith}
 use native.Mathlib.Nat.{pow-suc}
-use borrow.Author.Tests.{le-leb, lt-leb, eq-eqb, ne-eqb, leb-true, eqb-true, eqb-false, ltb-true}
-use lib.Dec.{eqb, leb, ltb}
+use borrow.Author.Tests.{le-leb, lt-leb, eq-eqb, ne-eqb, leb-true, eqb-true, eqb-false}
+use lib.Dec.{eqb, leb}
 use lib.ListN.{length, drop, getD}
 use lib.Seq.{getD-drop}
 use lib.Ieee.{Float, nan}
 use Rattle.arithmetic.specs.declared.vector.Vec2.{Vec2}
 use Rattle.laws.specs.declared.types.OptionVec2.the-variants as Leg
-use Rattle.laws.specs.declared.types.WaypointCommand.{WaypointCommand}
 use Rattle.fields.specs.Fields.{ones}
+use Rattle.fields.proofs.FieldLaw.{ones-le, ones-below}
 use Rattle.route_records.specs.Record.{mapRefusal, numberCount}
-use Rattle.routes.specs.declared.Point.{Point}
+use Rattle.route_records.proofs.MapsLaw.{map-is}
 use Rattle.routes.specs.Route.{pointAt, pointsOf, noPoint, numbered, isNear, legTo, isPassed, meets, flyTo, waypointFor, lentRefusal}
 
 pub positive : {n : ℕ} → 0 < n → eqb n 0 ≡ false
@@ -114,24 +114,19 @@ ones-some (suc n) m h l = go (eqb (m % 2) 0) refl (λ (p : 0 < m / 2) (q : m / 2
         omega (arith, ih (omega arith) (omega arith))
     go false e ih = let z : m % 2 ≡ 0 → ⊥ = eqb-false (m % 2) 0 e in omega arith
 
-map-some : (m : ℕ) → mapRefusal m ≡ 0 → 1 ≤ ones 64 m
-unfolding mapRefusal
-map-some m e = go (ltb m 2147483648) refl (eqb m 0) refl e
-  where
-    go : (a : Bool) → ltb m 2147483648 ≡ a → (b : Bool) → eqb m 0 ≡ b → _≡_ {A = ℕ} (cond (not a) 6 (cond b 10 0)) 0 → 1 ≤ ones 64 m
-    go true p true q z = absurd (omega arith)
-    go true p false q z =
-        let some : m ≡ 0 → ⊥ = eqb-false m 0 q in
-        ones-some 64 m (omega arith) (omega (arith, ltb-true m 2147483648 p))
-    go false p b q z = absurd (omega arith)
+map-some : (m : ℕ) → mapRefusal m ≡ 0 → (1 ≤ ones 64 m) × (ones 64 m ≤ 62)
+map-some m e =
+    let low = map-is m e .0 in
+    let some = map-is m e .1 in
+    (ones-some 64 m (omega arith) (omega arith), omega (arith, ones-below 62 2 m low, ones-le 62 m))
 
--- numbers that are not refused: there is a point, and each has its numbers
-pub lent-gives : (m long r : ℕ) → r ≡ lentRefusal m long → r ≤ 0 → (1 ≤ ones 64 m) × (4 * ones 64 m ≤ long)
+-- numbers that are not refused: there is a point, each has its numbers, and there are no more than sixty-two
+pub lent-gives : (m long r : ℕ) → r ≡ lentRefusal m long → r ≤ 0 → (1 ≤ ones 64 m) × (4 * ones 64 m ≤ long) × (ones 64 m ≤ 62)
 unfolding lentRefusal numberCount
 lent-gives m long r er h = go (eqb (mapRefusal m) 0) refl (leb (4 * ones 64 m) long) refl er
   where
     go : (a : Bool) → eqb (mapRefusal m) 0 ≡ a → (b : Bool) → leb (4 * ones 64 m) long ≡ b → r ≡ cond (not a) (mapRefusal m) (cond b 0 5)
-        → (1 ≤ ones 64 m) × (4 * ones 64 m ≤ long)
-    go true p true q e = (map-some m (eqb-true (mapRefusal m) 0 p), leb-true (4 * ones 64 m) long q)
+        → (1 ≤ ones 64 m) × (4 * ones 64 m ≤ long) × (ones 64 m ≤ 62)
+    go true p true q e = let some = map-some m (eqb-true (mapRefusal m) 0 p) in (some .0, leb-true (4 * ones 64 m) long q, some .1)
     go true p false q e = absurd (omega arith)
     go false p b q e = let no : mapRefusal m ≡ 0 → ⊥ = eqb-false (mapRefusal m) 0 p in absurd (omega arith)

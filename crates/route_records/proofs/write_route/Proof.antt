@@ -1,5 +1,5 @@
 -- `write_route` meets its contract: a lemma for each outcome. Assumes nothing.
-use mathlib.Core.Path.{sym}
+use mathlib.Core.Path.{refl, sym}
 use Prim.Native.Nat.{_+_, _*_, _≤_}
 use native.Mathlib.Omega.{arith}
 use lib.ListN.{length}
@@ -22,7 +22,13 @@ returns-2 : tie.Need-returns-2
 returns-2 c = write-short _ _ _ _ _ (c .before .before .before .map-refusal .ensures) (c .before .before .if1 .left) _ (c .before .numbers-of .ensures .0) (c .if2 .taken)
 
 returns-3 : tie.Need-returns-3
-returns-3 c = write-full _ _ _ _ _ (c .before .before .before .before .map-refusal .ensures) (c .before .before .before .if1 .left) _ (c .before .before .numbers-of .ensures .0) (c .before .if2 .left) (omega (arith, c .if3 .taken))
+returns-3 c =
+    let t = c .before .before in
+    write-full _ _ _ _ _ (t .before .before .map-refusal .ensures) (t .before .if1 .left) _ (t .numbers-of .ensures .0)
+    (c .before .if2 .left) _ refl (omega (arith, c .if3 .taken))
+
+maps-size-requires : tie.Need-maps-size-requires
+maps-size-requires c κs = search needs
 
 mul-size : tie.Need-mul-size
 mul-size c = search needs
@@ -35,8 +41,9 @@ sub-if4 c = search needs
 
 returns-4 : tie.Need-returns-4
 returns-4 c =
-    write-full _ _ _ _ _ (c .before .before .before .before .before .map-refusal .ensures) (c .before .before .before .before .if1 .left) _ (c .before .before .before .numbers-of .ensures .0) (c .before .before .if2 .left)
-    (omega (arith, c .if4 .taken, c .before .if3 .left))
+    let t = c .before .before .before .before in
+    write-full _ _ _ _ _ (t .before .before .map-refusal .ensures) (t .before .if1 .left) _ (t .numbers-of .ensures .0)
+    (c .before .before .before .if2 .left) _ (c .before .maps-size .ensures .0) (omega (arith, c .if4 .taken, c .before .before .if3 .left))
 
 sub-write-record : tie.Need-sub-write-record
 sub-write-record c = search needs
@@ -48,26 +55,28 @@ part-write-record-end : tie.Need-part-write-record-end
 part-write-record-end c = search needs
 
 slice-aggregate-write-record : tie.Need-slice-aggregate-write-record
-slice-aggregate-write-record c = sym (length-take-le _ _ (c .before .before .before .before .if2 .left))
+slice-aggregate-write-record c = sym (length-take-le _ _ (c .before .before .before .before .before .if2 .left))
 
 write-record-requires : tie.Need-write-record-requires
 write-record-requires c κs =
-    let a = c .before .before .before .before .before .before .before .before .before .before .args in
-    let n = c .before .before .before .before .before .numbers-of .result in
-    let room : a .at + (4 + 4 * n) ≤ length (a .out .now) = omega (arith, c .before .before .if4 .left, c .before .before .before .if3 .left) in
-    part-room 4 n (a .at) (a .numbers .now) (a .out .now) (c .before .before .before .before .if2 .left) room
+    let a = c .before .before .before .before .before .before .before .before .before .before .before .args in
+    let n = c .before .before .before .before .before .before .numbers-of .result in
+    let k = c .before .before .before .maps-size .result in
+    let room : a .at + (k + 4 * n) ≤ length (a .out .now) = omega (arith, c .before .before .if4 .left, c .before .before .before .before .if3 .left) in
+    (c .before .before .before .maps-size .ensures .0, part-room k n (a .at) (a .numbers .now) (a .out .now) (c .before .before .before .before .before .if2 .left) room)
 
-add-t10 : tie.Need-add-t10
-add-t10 c = search needs
+add-t11 : tie.Need-add-t11
+add-t11 c = search needs
 
 same-length : tie.Need-same-length
 same-length c = search needs
 
 returns-5 : tie.Need-returns-5
 returns-5 c =
-    writes _ _ _ _ _ (c .before .before .before .before .before .before .before .before .before .before .map-refusal .ensures)
-    (c .before .before .before .before .before .before .before .before .before .if1 .left) _ (c .before .before .before .before .before .before .before .before .numbers-of .ensures .0)
-    (c .before .before .before .before .before .before .before .if2 .left) (omega (arith, c .before .before .before .before .before .if4 .left, c .before .before .before .before .before .before .if3 .left))
+    let d = c .before .before .before .before .before in
+    let t = d .before .before .before .before in
+    writes _ _ _ _ _ (t .before .before .map-refusal .ensures) (t .before .if1 .left) _ (t .numbers-of .ensures .0)
+    (d .before .before .before .if2 .left) _ (d .before .maps-size .ensures .0) (omega (arith, d .if4 .left, d .before .before .if3 .left))
     (c .before .before .write-record .last .0) (c .before .before .write-record .ensures)
 
 pub write-route-spec : {M : Type 1} → statement M
@@ -79,6 +88,7 @@ write-route-spec =
     numbers-of-requires
     returns-2
     returns-3
+    maps-size-requires
     mul-size
     add-size
     sub-if4
@@ -88,6 +98,6 @@ write-route-spec =
     part-write-record-end
     slice-aggregate-write-record
     write-record-requires
-    add-t10
+    add-t11
     same-length
     returns-5)

@@ -227,7 +227,8 @@ fn main() {
                 std::process::exit(1);
             }
         }
-        Some("routes") => output(route::lines(&input()).as_bytes()),
+        Some("routes") => output(route::lines(&input()).0.as_bytes()),
+        Some("refused-loads") => output(route::lines(&input()).1.as_bytes()),
         Some("generate-routes") if rest.len() == 2 => output(&route::generate(number(rest, 0), number(rest, 1) as usize)),
         Some("records") => output(codec::lines(&input()).as_bytes()),
         Some("evaluate") => output(evaluate(&String::from_utf8_lossy(&input())).as_bytes()),

@@ -1,4 +1,4 @@
-//! Document 02's routes (K2) over a guidance of the Rust: the record, the route call, and lists of calls with routes.
+//! Document 02's routes (K2, K10) over a guidance of the Rust: the record, the route call, and lists of calls with routes.
 //!
 //! A list: a configuration record, then entries, each a tag and what belongs to it. 0, 1 and 2 are those of the lists without routes.
 //! 3: two bytes with a length, low byte first, and so many bytes, which are loaded from their front. 4: a route call, thirteen words of
@@ -19,7 +19,8 @@ type Point = [f32; 4]; // north, east, altitude, cruise speed
 
 #[derive(Clone, Default)]
 pub struct Route {
-    map: u32,
+    first: u32,  // bits 0 to 30 of the first map
+    second: u32, // bits 0 to 30 of the second; 0 where there is none
     points: Vec<Point>,
     number: usize,
 }
@@ -43,28 +44,67 @@ fn place(point: &Point) -> [f32; 2] {
     [point[0], point[1]]
 }
 
+const FIRST_BITS: u32 = 0x7fff_ffff;
+
+/// Why a record is refused: the number, and what it is for.
+type Refused = (u32, &'static str);
+
+/// A 4-byte map, and the bytes behind it.
+fn map_and_rest<'a>(bytes: &'a [u8], cut: &'static str) -> Result<(u32, &'a [u8]), Refused> {
+    let (map, rest) = bytes.split_first_chunk::<4>().ok_or((5, cut))?;
+    Ok((u32::from_le_bytes(*map), rest))
+}
+
+/// A second map only where one of its bits stands; bit 31 of the first says so.
+fn map_bytes(first: u32, second: u32) -> Vec<u8> {
+    if second == 0 {
+        return first.to_le_bytes().to_vec();
+    }
+    [(first | 1 << 31).to_le_bytes(), second.to_le_bytes()].concat()
+}
+
 impl Route {
-    pub fn read(bytes: &[u8], at: usize) -> Result<(Route, usize), u32> {
-        let rest = bytes.get(at..).ok_or(5u32)?;
-        let map = u32::from_le_bytes(*rest.first_chunk::<4>().ok_or(5u32)?);
-        if map >> 31 != 0 {
-            return Err(6);
+    fn read(bytes: &[u8], at: usize) -> Result<(Route, usize), Refused> {
+        let rest = bytes.get(at..).ok_or((5, "a place past the end"))?;
+        let (first, rest) = map_and_rest(rest, "the first map cut short")?;
+        let followed = first >> 31 == 1;
+        let first = first & FIRST_BITS;
+        let (second, rest) = if followed { map_and_rest(rest, "the second map cut short")? } else { (0, rest) };
+        if second >> 31 == 1 {
+            return Err((6, "bit 31 of the second map"));
         }
-        if map == 0 {
-            return Err(10);
+        if followed && second == 0 {
+            return Err((6, "an empty second map"));
         }
-        let size = 16 * map.count_ones() as usize;
-        let body = rest[4..].get(..size).ok_or(5u32)?;
+        if !followed && first == 0 {
+            return Err((10, "no point"));
+        }
+        let size = 16 * (first.count_ones() + second.count_ones()) as usize;
+        let body = rest
+            .get(..size)
+            .ok_or((5, if followed { "points of two maps cut short" } else { "points of one map cut short" }))?;
         let words: Vec<f32> = body.chunks(4).map(|word| f32::from_le_bytes(word.try_into().unwrap())).collect();
         if words.iter().any(|number| !number.is_finite()) {
-            return Err(11);
+            return Err((
+                11,
+                if followed { "a number not finite behind two maps" } else { "a number not finite behind one map" },
+            ));
         }
         let points = words.chunks(4).map(|point| point.try_into().unwrap()).collect();
-        Ok((Route { map, points, number: 1 }, at + 4 + size))
+        Ok((Route { first, second, points, number: 1 }, bytes.len() - rest.len() + size))
+    }
+
+    fn is_empty(&self) -> bool {
+        self.first == 0 && self.second == 0
+    }
+
+    /// The two maps as a host holds them: the second's bits above the first's 31.
+    fn map(&self) -> u64 {
+        u64::from(self.second) << 31 | u64::from(self.first)
     }
 
     fn bytes(&self) -> Vec<u8> {
-        let mut bytes = self.map.to_le_bytes().to_vec();
+        let mut bytes = map_bytes(self.first, self.second);
         bytes.extend(self.points.iter().flatten().flat_map(|number| number.to_le_bytes()));
         bytes
     }
@@ -112,7 +152,7 @@ impl Route {
 }
 
 fn fly(guidance: &mut Plane, route: &mut Route, radius: f32, given: &Given) -> Result<Answer, u32> {
-    if route.map == 0 {
+    if route.is_empty() {
         return Err(10);
     }
     let reached = route.number + route.meets([given.position[0], given.position[1]], radius) as usize;
@@ -128,6 +168,7 @@ struct Run<'a> {
     guidance: Plane,
     settings: Settings,
     route: Route,
+    refused_loads: String, // why each was, a line each
 }
 
 impl Run<'_> {
@@ -166,11 +207,14 @@ impl Run<'_> {
                 let bytes = self.take(length)?;
                 Some(match Route::read(&bytes, 0) {
                     Ok((route, next)) => {
-                        let text = format!("loaded {:08x} {next}", route.map);
+                        let text = format!("loaded {:016x} {next}", route.map());
                         self.route = route;
                         text
                     }
-                    Err(number) => format!("refused {number}"),
+                    Err((number, why)) => {
+                        self.refused_loads += &format!("{number} {why}\n");
+                        format!("refused {number}")
+                    }
                 })
             }
             4 => {
@@ -194,7 +238,8 @@ impl Run<'_> {
             5 => {
                 let (length, at) = (self.half()?, self.half()?);
                 let mut out = vec![0xa5; length];
-                let done = if self.route.map == 0 { Err(10) } else { record::write(&self.route.bytes(), &mut out, at) };
+                let done =
+                    if self.route.is_empty() { Err(10) } else { record::write(&self.route.bytes(), &mut out, at) };
                 let hex: String = out.iter().map(|byte| format!("{byte:02x}")).collect();
                 Some(match done {
                     Ok(next) => format!("written {next} {hex}"),
@@ -210,16 +255,17 @@ fn told(done: Result<Answer, u32>) -> String {
     done.map_or_else(|number| format!("refused {number}"), |answer| answer_text(&answer))
 }
 
-/// A line for each entry, and one with the route's number and the state after it.
-pub fn lines(input: &[u8]) -> String {
+/// A line for each entry, and one with the route's number and the state after it; and why each refused loading was refused.
+pub fn lines(input: &[u8]) -> (String, String) {
     let Ok((numbers, place)) = record::read_configuration(input, 0) else {
-        return "config stopped\n".to_string();
+        return ("config stopped\n".to_string(), String::new());
     };
     if validate(&numbers) != 0 {
-        return "config refused\n".to_string();
+        return ("config refused\n".to_string(), String::new());
     }
     let settings = Settings::new(&numbers);
-    let mut run = Run { input, place, guidance: Plane::new(&numbers), settings, route: Route::default() };
+    let guidance = Plane::new(&numbers);
+    let mut run = Run { input, place, guidance, settings, route: Route::default(), refused_loads: String::new() };
     let mut out = String::new();
     let mut n = 1;
     while run.place < input.len() {
@@ -230,21 +276,35 @@ pub fn lines(input: &[u8]) -> String {
         out += &format!("{n} {text}\n{n} point {} {}\n", run.route.number, state_text(&run.guidance.state()));
         n += 1;
     }
-    out
+    (out, run.refused_loads)
 }
 
 // ---- generated lists
 
 fn odd(random: &mut Random) -> f32 {
-    if random.once_in(3) { random.pick(&[f32::NAN, f32::INFINITY, f32::NEG_INFINITY, -0.0, 3e38, -3e38]) } else { numbers::wild(random) }
+    if random.once_in(3) {
+        random.pick(&[f32::NAN, f32::INFINITY, f32::NEG_INFINITY, -0.0, 3e38, -3e38])
+    } else {
+        numbers::wild(random)
+    }
+}
+
+/// So many bits of 31.
+fn some_bits(random: &mut Random, count: u32) -> u32 {
+    let mut map = 0u32;
+    while map.count_ones() < count {
+        map |= 1 << random.below(31);
+    }
+    map
 }
 
 fn record_of(random: &mut Random) -> (Vec<u8>, Vec<Point>) {
-    let count = random.pick(&[1, 1, 2, 2, 3, 4, 6, 31]);
-    let mut map = 0u32;
-    while (map.count_ones() as usize) < count {
-        map |= 1 << random.below(31);
-    }
+    let long = random.once_in(3);
+    let (few, more) =
+        if long { random.pick(&[(0, 1), (0, 3), (1, 1), (2, 1), (6, 2), (31, 31), (31, 31)]) } else { (0, 0) };
+    let first = if long { few } else { random.pick(&[1, 1, 2, 2, 3, 4, 6, 31]) };
+    let (first, second) = (some_bits(random, first), some_bits(random, more));
+    let count = (first.count_ones() + second.count_ones()) as usize;
     let spread = random.pick(&[1.0, 60.0, 300.0, 3e38]);
     let mut points: Vec<Point> = Vec::new();
     for n in 0..count {
@@ -258,17 +318,20 @@ fn record_of(random: &mut Random) -> (Vec<u8>, Vec<Point>) {
             [random.between(-spread, spread).round(), east, random.between(20.0, 120.0), speed]
         });
     }
-    let mut bytes = map.to_le_bytes().to_vec();
+    let mut bytes = map_bytes(first, second);
+    let front = bytes.len();
     bytes.extend(points.iter().flatten().flat_map(|number| number.to_le_bytes()));
     match random.below(16) {
         0 => bytes.truncate(random.below(bytes.len())),
-        1 => bytes[3] |= 0x80,
-        2 => bytes[..4].fill(0),
+        1 => bytes[front - 1] |= 0x80,
+        2 => bytes[front - 4..front].fill(0),
         3 => {
-            let at = 4 + 4 * random.below(4 * count);
-            bytes[at..at + 4].copy_from_slice(&random.pick(&[f32::NAN, f32::INFINITY, f32::NEG_INFINITY]).to_le_bytes());
+            let at = front + 4 * random.below(4 * count);
+            bytes[at..at + 4]
+                .copy_from_slice(&random.pick(&[f32::NAN, f32::INFINITY, f32::NEG_INFINITY]).to_le_bytes());
         }
         4 => bytes.push(7),
+        5 => bytes.truncate(random.below(front + 1)),
         _ => {}
     }
     (bytes, points)
@@ -302,7 +365,8 @@ fn words_of(random: &mut Random, at: [f32; 2]) -> Vec<u8> {
     let airspeed = number(17.0);
     let cap = number(0.3);
     let bad_step = random.once_in(24);
-    let floats = [if bad_step { -1.0 } else { time_step }, at[0], at[1], height, velocity[0], velocity[1], velocity[2], roll];
+    let floats =
+        [if bad_step { -1.0 } else { time_step }, at[0], at[1], height, velocity[0], velocity[1], velocity[2], roll];
     let mut words = vec![if random.once_in(40) { 2 } else { random.below(2) as u32 }];
     words.extend(floats.map(f32::to_bits));
     words.extend([random.below(4).min(1) as u32, airspeed.to_bits()]);
@@ -316,6 +380,7 @@ pub fn generate(seed: u64, entries: usize) -> Vec<u8> {
     numbers[LOITER_RADIUS] = random.pick(&[60.0, 10.0, 0.5]);
     let mut bytes = record::configuration_bytes(&numbers);
     let mut points = vec![[0.0; 4]];
+    let mut flown_until = 0; // so that a long route is flown to its end
     for n in 0..entries {
         let kind = if n == 1 { 20 } else { random.below(64) };
         match kind {
@@ -339,18 +404,19 @@ pub fn generate(seed: u64, entries: usize) -> Vec<u8> {
                 }
             }
             3 => bytes.push(2),
-            20 | 21 => {
+            20 | 21 if n >= flown_until => {
                 let (record, made) = record_of(random);
                 bytes.push(3);
                 bytes.extend((record.len() as u16).to_le_bytes());
                 bytes.extend(&record);
                 if Route::read(&record, 0).is_ok() {
                     points = made;
+                    flown_until = if points.len() > 31 { n + 8 * points.len() } else { 0 };
                 }
             }
             22 => {
                 bytes.push(5);
-                bytes.extend((random.below(560) as u16).to_le_bytes());
+                bytes.extend((random.below(1200) as u16).to_le_bytes());
                 bytes.extend((random.below(70) as u16).to_le_bytes());
             }
             _ => {
