@@ -59,7 +59,7 @@ module _ (s : Bool) (m : ℕ) (e : ℤ) (h : T (fits binary32 (fin s (suc m) e))
   few-digits : suc m < 2 ^ 24
   few-digits = ltb→lt (suc m) (2 ^ 24) (and-r (is-odd (suc m)) (few (suc m)) (and-l (is-odd (suc m) && few (suc m)) (coarse e) first-three))
 
-  not-too-small : down e ≤ 2 ^ 149
+  pub not-too-small : down e ≤ 2 ^ 149
   not-too-small = leb→le (down e) (2 ^ 149) (and-r (is-odd (suc m) && few (suc m)) (coarse e) first-three)
 
   not-too-large : suc m * up e < 2 ^ 128 * down e
