@@ -12,14 +12,14 @@ use lib.Ieee as Ieee
 use lib.Ieee.{Float, nan, inf, fin, binary32, up, down, odd, units, round, add, sub, mul, div, neg, lt, le, eq, isNan, fits, ofBits}
 use lib.Ieee.Fits.{round-is, up-pos, down-pos}
 use lib.Ieee.Exact.{HasValue}
-use borrow.Author.Tests.{ltb-true, ltb-false, le-ltb}
+use borrow.Author.Tests.{ltb-true, ltb-false}
 use Rattle.arithmetic.specs.Constants.{_+ᶠ_, _-ᶠ_, _·ᶠ_, _/ᶠ_, n0, n1, fracPi2, fracPi4}
 use Rattle.arithmetic.specs.Order.{finite, size, negative}
 use Rattle.arithmetic.specs.Trigonometry.{series, part, arctangentOfSize, arctangent}
 use Rattle.arithmetic.specs.Trigonometry.{seriesEnd, third, fifth, seventh, ninth, eleventh, thirteenth, fifteenth}
 use Rattle.arithmetic.proofs.Bounds.{never, never′, plain, le-of-not-lt, finite-number}
-use Rattle.arithmetic.proofs.Bounds.{lt-right, equal-not-above}
-use Rattle.arithmetic.proofs.Sums.{above, sum-rounds}
+use Rattle.arithmetic.proofs.Bounds.{le-of-lt, lt-right, equal-not-above}
+use Rattle.arithmetic.proofs.Sums.{le-not-lt, sum-rounds}
 use Rattle.arithmetic.proofs.Rounding.{not-too-small}
 use Rattle.arithmetic.proofs.Signs.{size-number, size-unsigned}
 use Rattle.arithmetic.proofs.Within.{Within, AtLeast, within-finite, weaker, fewer, is-above, not-zero, none, held, le-within, le-least}
@@ -263,17 +263,9 @@ not-equal : (v : Float) → lt n0 v ≡ true → (b : Bool) → eq v n0 ≡ b �
 not-equal v p true e = never′ (sym p ∙ equal-not-above v n0 e)
 not-equal v p false e = refl
 
-not-below : (v : Float) → lt n0 v ≡ true → lt v n0 ≡ false
-unfolding lt ofBits
-not-below nan p = refl
-not-below (inf true) p = never p
-not-below (inf false) p = refl
-not-below (fin true m e) p = never p
-not-below (fin false m e) p = le-ltb (m * up e * 1) (0 * down e) (omega arith)
-
 is-of-size : (v : Float) → lt n0 v ≡ true → arctangent v ≡ arctangentOfSize (size v)
 unfolding arctangent
-is-of-size v p = rw (lt-right n0 v p, not-equal v p (eq v n0) refl, not-below v p)
+is-of-size v p = rw (lt-right n0 v p, not-equal v p (eq v n0) refl, le-not-lt n0 v (le-of-lt n0 v p))
 
 of-size : (v : Float) → T (fits binary32 v) → lt n0 v ≡ true → lt n0 (arctangentOfSize (size v)) ≡ true
 unfolding lt ofBits size

@@ -62,7 +62,7 @@ module _ (s : Bool) (m : ℕ) (e : ℤ) (h : T (fits binary32 (fin s (suc m) e))
   pub not-too-small : down e ≤ 2 ^ 149
   not-too-small = leb→le (down e) (2 ^ 149) (and-r (is-odd (suc m) && few (suc m)) (coarse e) first-three)
 
-  not-too-large : suc m * up e < 2 ^ 128 * down e
+  pub not-too-large : suc m * up e < 2 ^ 128 * down e
   not-too-large = ltb→lt (suc m * up e) (2 ^ 128 * down e) (and-r (is-odd (suc m) && few (suc m) && coarse e) (bounded (suc m) e) parts)
 
 -- the same value, by its units

@@ -3,24 +3,24 @@ use mathlib.Core.Path.{_≡_, refl, sym, ap, _∙_, subst}
 use mathlib.Core.Bool.{Bool, true, false, true≢false}
 use Prim.Native.Nat.{ℕ, zero, suc, _+_, _-_, _*_, _^_, _≤_, _<_}
 use native.Mathlib.Nat.{le-trans, le-of-eq, lt-irrefl, lt-of-lt-of-le, zero-mul, mul-assoc, mul-mul-mul-comm, add-mul}
-use native.Mathlib.Nat.{mul-le-mul, mul-le-mul-right, le-of-mul-le-mul-right, mul-pos, mul-lt-mul-of-pos-right}
+use native.Mathlib.Nat.{mul-le-mul, mul-le-mul-right, le-of-mul-le-mul-right, mul-pos, mul-lt-mul-of-pos-right, mul-one, le-of-lt}
 use native.Mathlib.Omega.{arith}
 use lib.Dec.{T, eqb·suc-zero}
 use lib.IntN.{ℤ}
 use lib.Pow.{pow-add, pow-pos, pow-mono}
 use lib.Ieee as Ieee
-use lib.Ieee.{Float, nan, inf, fin, binary32, up, down, round, sum, add, sub, mul, div, neg, lt, le, ofBits}
+use lib.Ieee.{Float, nan, inf, fin, binary32, up, down, round, sum, add, sub, mul, div, neg, lt, le, isNan, fits, ofBits}
 use lib.Ieee.Fits.{up-pos, down-pos}
 use lib.Ieee.Exact.{HasValue, round-exact}
 use lib.Ieee.Order.{round-mono}
 use lib.Ieee.Positive.{through}
 use lib.Ieee.Digits.{back}
-use borrow.Author.Tests.{ltb-true, lt-ltb}
-use Rattle.arithmetic.specs.Constants.{_+ᶠ_, _-ᶠ_, _·ᶠ_, _/ᶠ_, n0}
-use Rattle.arithmetic.specs.Order.{finite, size}
-use Rattle.arithmetic.specs.Trigonometry.{part}
-use Rattle.arithmetic.proofs.Bounds.{never, AtLeastZero, an-inf, plain, minus-zero}
+use borrow.Author.Tests.{ltb-true, ltb-false, lt-ltb}
+use Rattle.arithmetic.specs.Constants.{_+ᶠ_, _-ᶠ_, _·ᶠ_, _/ᶠ_, n0, n1}
+use Rattle.arithmetic.specs.Order.{finite}
+use Rattle.arithmetic.proofs.Bounds.{never, never′, AtLeastZero, an-inf, plain, minus-zero}
 use Rattle.arithmetic.proofs.Sums.{above, under, cross-of, round-neg, round-plain, Rounds, more, less, sum-rounds, holds}
+use Rattle.arithmetic.proofs.Rounding.{not-too-large}
 
 -- finite, and at most b / q in size
 abbrev pub Within : ℕ → ℕ → Float → Type 0
@@ -77,6 +77,25 @@ is-above b q (fin false m e) B h =
 
 pub not-zero : (a b : ℕ) → 0 * b < 0 * a * 1 → ⊥
 not-zero a b h = omega arith
+
+-- every finite f32 is at most 2 ^ 128 in size
+pub f32-within : (x : Float) → finite x ≡ true → T (fits binary32 x) → Within (2 ^ 128) 1 x
+unfolding finite
+f32-within nan p f = never p
+f32-within (inf s) p f = never p
+f32-within (fin s zero e) p f = le-trans (le-of-eq (mul-one (0 * up e) ∙ zero-mul (up e))) (le-of-lt (mul-pos (pow-pos 128) (down-pos e)))
+f32-within (fin s (suc m) e) p f = le-trans (le-of-eq (mul-one (suc m * up e))) (le-of-lt (not-too-large s m e f))
+
+-- what is a number and not below 1 is at least 1
+pub from-1 : (x : Float) → isNan x ≡ false → lt x n1 ≡ false → AtLeast 1 1 x
+unfolding lt isNan ofBits
+from-1 nan p q = never′ p
+from-1 (inf true) p q = never′ q
+from-1 (inf false) p q = tt
+from-1 (fin true m e) p q =
+    let l = ltb-false 0 (m * up e * 1 + 1 * down e) q in
+    absurd (lt-irrefl 0 (lt-of-lt-of-le (down-pos e) (omega (arith, l))))
+from-1 (fin false m e) p q = let l = ltb-false (m * up e * 1) (1 * down e) q in omega (arith, l)
 
 -- ---- rounding
 

@@ -1,12 +1,12 @@
 -- Document 02's K5: at a tie straight back the angle steered is FRAC_PI_2 to the right.
 use mathlib.Core.Path.{_≡_, refl, sym, _∙_}
-use mathlib.Core.Bool.{Bool, true, false, cond, _||_}
+use mathlib.Core.Bool.{Bool, true, false, cond, not, _||_}
 use lib.Ieee as Ieee
 use lib.Ieee.{Float, nan, inf, fin, isNan, neg, lt, le, eq, ofBits, add, sub, mul, div}
 use Rattle.arithmetic.specs.Constants.{_+ᶠ_, _-ᶠ_, _·ᶠ_, _/ᶠ_, n0, n1, pi, fracPi2, fracPi4}
 use Rattle.arithmetic.specs.Order.{clamp, finite, choose}
 use Rattle.arithmetic.specs.Trigonometry.{sine}
-use Rattle.arithmetic.proofs.Bounds.{never, never′, le-of-not-lt, le-of-lt, clamped-low, clamped-high, unclamped, right-number, nan-is}
+use Rattle.arithmetic.proofs.Bounds.{never, never′, le-of-not-lt, le-of-lt, clamped-low, clamped-high, unclamped, right-number, nan-is, finite-number}
 use Rattle.arithmetic.proofs.Sums.{le-trans, le-neg, sub-mono, neg-finite, between-finite}
 use Rattle.laws.specs.Math.{limitOrZero, clampSymmetric}
 use Rattle.arithmetic.specs.Vector.{norm, cross, normalise}
@@ -15,6 +15,8 @@ use Rattle.arithmetic.specs.declared.vector.Normalised.the-variants.{Parts}
 use Rattle.laws.specs.Navigation.{n4, maxCapture, difference, l1, tie, course, capture, steeredRad, trackAlong, centripetal}
 use Rattle.laws.specs.Navigation.{leastLeg, leastOffset, along, rightOf, noCourse, level, trackBy, trackAccel, loiterBy, loiterAccel}
 use Rattle.laws.proofs.Steering.{or-left, or-right}
+use Rattle.laws.specs.Types.{gravity}
+use Rattle.laws.proofs.Bank.{zero-or-above, over-gravity}
 use Rattle.laws.proofs.Plus.{plus, plus-mul, plus-div, plus-add, plus-choose, plus-from-1, plus-above-0, zero-plus}
 
 -- ---- constants
@@ -135,6 +137,10 @@ pi-plus : plus pi ≡ true
 unfolding ofBits
 pi-plus = refl
 
+level-bank : lt n0 (n0 /ᶠ gravity) ≡ false
+unfolding ofBits div lt
+level-bank = refl
+
 module _ (position velocity point direction : Vec2) (speed period damping : Float) where
   abbrev distance : Float
   distance = damping ·ᶠ period ·ᶠ speed /ᶠ pi
@@ -154,10 +160,8 @@ module _ (position velocity point direction : Vec2) (speed period damping : Floa
   unfolding trackAlong l1 finite
   lost h = rw (nan-is (captureOf position velocity point direction distance) h, no-angle (course direction velocity), no-sine, nan-product factor)
 
-  pub never-left :
-      tie direction velocity ≡ true → plus damping ≡ true → plus period ≡ true → plus speed ≡ true →
-      plus (trackAlong position velocity point direction speed period damping .«accel_mps2») ≡ true
-  never-left straight d p s = go (isNan (captureOf position velocity point direction distance)) refl
+  quarter-turn-plus : plus damping ≡ true → plus period ≡ true → plus speed ≡ true → plus (factor ·ᶠ sine fracPi2) ≡ true
+  quarter-turn-plus d p s = plus-mul factor (sine fracPi2) factor-plus sine-plus
     where
       distance-plus : plus distance ≡ true
       distance-plus = plus-div (damping ·ᶠ period ·ᶠ speed) pi (plus-mul (damping ·ᶠ period) speed (plus-mul damping period d p) s) pi-plus
@@ -170,12 +174,38 @@ module _ (position velocity point direction : Vec2) (speed period damping : Floa
           plus-div (n4 ·ᶠ damping ·ᶠ damping ·ᶠ speed ·ᶠ speed) distance
           (plus-mul (n4 ·ᶠ damping ·ᶠ damping ·ᶠ speed) speed (plus-mul (n4 ·ᶠ damping ·ᶠ damping) speed gain-plus s) s) distance-plus
 
+  pub never-left :
+      tie direction velocity ≡ true → plus damping ≡ true → plus period ≡ true → plus speed ≡ true →
+      plus (trackAlong position velocity point direction speed period damping .«accel_mps2») ≡ true
+  never-left straight d p s = go (isNan (captureOf position velocity point direction distance)) refl
+    where
       go : (b : Bool) → isNan (captureOf position velocity point direction distance) ≡ b
           → plus (trackAlong position velocity point direction speed period damping .«accel_mps2») ≡ true
       go true h = rw (lost h) zero-plus
       go false h =
           rw (at-a-tie straight h)
-          (plus-choose (finite (factor ·ᶠ sine fracPi2)) (factor ·ᶠ sine fracPi2) (plus-mul factor (sine fracPi2) factor-plus sine-plus))
+          (plus-choose (finite (factor ·ᶠ sine fracPi2)) (factor ·ᶠ sine fracPi2) (quarter-turn-plus d p s))
+
+  -- the acceleration over gravity is above 0, unless the capture angle is NaN, or the quarter turn's acceleration is not finite or over
+  -- gravity rounds to 0
+  pub right-unless :
+      tie direction velocity ≡ true → plus damping ≡ true → plus period ≡ true → plus speed ≡ true →
+      lt n0 (trackAlong position velocity point direction speed period damping .«accel_mps2» /ᶠ gravity)
+      ≡ not (isNan (captureOf position velocity point direction distance) || not (finite (factor ·ᶠ sine fracPi2)) || eq (factor ·ᶠ sine fracPi2 /ᶠ gravity) n0)
+  right-unless straight d p s = go (isNan (captureOf position velocity point direction distance)) refl
+    where
+      turn : Float
+      turn = factor ·ᶠ sine fracPi2
+
+      by : (b : Bool) → finite turn ≡ b → lt n0 (choose b turn n0 /ᶠ gravity) ≡ not (false || not b || eq (turn /ᶠ gravity) n0)
+      by true h = zero-or-above (turn /ᶠ gravity) (over-gravity turn (quarter-turn-plus d p s) (finite-number turn h))
+      by false h = level-bank
+
+      go : (b : Bool) → isNan (captureOf position velocity point direction distance) ≡ b
+          → lt n0 (trackAlong position velocity point direction speed period damping .«accel_mps2» /ᶠ gravity)
+          ≡ not (b || not (finite turn) || eq (turn /ᶠ gravity) n0)
+      go true h = rw (lost h) level-bank
+      go false h = rw (at-a-tie straight h) (by (finite turn) refl)
 
 -- a loiter adds its circle's acceleration, which is to the right too
 pub loiter-never-left :
