@@ -15,10 +15,18 @@ use Rattle.laws.specs.Config.{validate}
 use Rattle.laws.specs.Types.{gravity}
 use Rattle.laws.specs.Navigation.{leastLeg, leastOffset, difference, rightOf, noCourse, l1, capture, tie, finiteLeg}
 use Rattle.laws.specs.declared.config.PlaneGuidanceConfig.{PlaneGuidanceConfig}
+use Rattle.laws.specs.declared.types.OptionF32.{OptionF32}
 use Rattle.laws.specs.declared.types.OptionVec2.the-variants as Leg
+use Rattle.laws.specs.declared.types.ControlInput.the-variants as Input
+use Rattle.laws.specs.declared.types.FlightRegime.{FlightRegime}
+use Rattle.laws.specs.declared.types.Setpoint.{Setpoint}
+use Rattle.laws.specs.declared.types.Setpoint.the-variants as Set
 use Rattle.laws.specs.declared.types.WaypointCommand.{WaypointCommand}
 use Rattle.laws.specs.declared.types.VehicleState.{VehicleState}
-use Rattle.guidance.specs.Plane.{northEast, rollOf}
+use Rattle.guidance.specs.Plane.{northEast, rollOf, guided}
+use Rattle.guidance.specs.declared.plane.PlaneGuidance.{PlaneGuidance}
+use Rattle.guidance.specs.declared.plane.Answer.{Answer}
+use Rattle.guidance.specs.declared.plane.Answer.the-variants.{Refused, Commanded, Waypoint}
 
 -- ---- a tie
 
@@ -76,15 +84,32 @@ pub record TurnsRight (roll : Float) (none : Bool) : Type 0 where
   pub never-left : Ieee.le n0 roll ≡ true
   pub right : Ieee.lt n0 roll ≡ not none
 
+abbrev pub SetpointTurnsRight : Setpoint → Bool → Type 0
+SetpointTurnsRight (Set.Plane roll pitch thrust) none = TurnsRight roll none
+SetpointTurnsRight (Set.PlaneRate roll pitch yaw thrust) none = ⊥
+
+-- a waypoint's answer is a refusal, or a plane's setpoint with such a roll
+abbrev pub AnswerTurnsRight : Answer → Bool → Type 0
+AnswerTurnsRight (Refused n) none = Unit {0}
+AnswerTurnsRight (Commanded t) none = ⊥
+AnswerTurnsRight (Waypoint a) none = SetpointTurnsRight (a .setpoint) none
+
+-- the waypoint's roll by this configuration, and so the answer of every guidance that has it
+pub record RollsRight (c : PlaneGuidanceConfig) (w : WaypointCommand) (s : VehicleState) (none : Bool) : Type 0 where
+  pub roll : TurnsRight (rollOf c w s) none
+  pub answer :
+      (g : PlaneGuidance) (dt : Float) (regime : FlightRegime) (cap : OptionF32) → g .config ≡ c →
+      AnswerTurnsRight (guided g dt regime (Input.Waypoint w) s cap .answer) none
+
 -- on a leg
 abbrev pub LegTurnsRight : Type 0
 LegTurnsRight =
     (c : PlaneGuidanceConfig) (w : WaypointCommand) (s : VehicleState) (direction : Vec2) → validate c ≡ 0 →
-    TieOnLeg w s direction → TurnsRight (rollOf c w s) (noBank c || noTurn c w s direction)
+    TieOnLeg w s direction → RollsRight c w s (noBank c || noTurn c w s direction)
 
 -- On a loiter's tangent max_bank_rad alone can leave it a zero: the circle's own acceleration is added, which does not round to 0 at a
 -- ground speed of at least 1 and a radius that is an f32.
 abbrev pub TangentTurnsRight : Type 0
 TangentTurnsRight =
     (c : PlaneGuidanceConfig) (w : WaypointCommand) (s : VehicleState) (direction : Vec2) → validate c ≡ 0 →
-    T (fits binary32 (c .«loiter_radius_m»)) → TieOnTangent w s direction → TurnsRight (rollOf c w s) (noBank c)
+    T (fits binary32 (c .«loiter_radius_m»)) → TieOnTangent w s direction → RollsRight c w s (noBank c)
