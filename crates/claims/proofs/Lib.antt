@@ -12,3 +12,4 @@ pub mod StallGuard
 pub mod StraightBack
 mod Variants
 mod GuardVariants
+mod TieVariants
