@@ -1,14 +1,12 @@
 -- The arctangent of a number above 0 is finite and above 0: each operation of it is bounded by a fraction. Assumes nothing.
 use mathlib.Core.Path.{_≡_, refl, sym, ap, _∙_, subst}
 use mathlib.Core.Bool.{Bool, true, false, cond, _||_}
-use Prim.Native.Nat.{ℕ, zero, suc, _-_, _*_, _^_, _≤_, _<_}
-use native.Mathlib.Nat.{le-trans, le-of-eq, one-mul}
-use native.Mathlib.Nat.{mul-le-mul-right, mul-pos}
+use Prim.Native.Nat.{ℕ, zero, suc, _*_, _^_, _≤_, _<_}
+use native.Mathlib.Nat.{le-trans, le-of-eq, one-mul, mul-le-mul-right, mul-pos}
 use native.Mathlib.Omega.{arith}
 use lib.Dec.{T, ltb, eqb·suc-zero}
 use lib.IntN.{ℤ, pos}
 use lib.Pow.{pow-pos}
-use lib.Ieee as Ieee
 use lib.Ieee.{Float, nan, inf, fin, binary32, up, down, odd, units, round, add, sub, mul, div, neg, lt, le, eq, isNan, fits, ofBits}
 use lib.Ieee.Fits.{round-is, up-pos, down-pos}
 use lib.Ieee.Exact.{HasValue}
@@ -47,7 +45,7 @@ one-is : n1 ≡ fin false 1 (pos 0)
 unfolding ofBits
 one-is = refl
 
--- ---- the series, of a number up to 1/2 in size
+-- ---- the series, of a w up to 1/2 in size: z is at most 1/4, each coefficient 3/8, each bracket 1/2, and the last from 7/8 to 9/8
 term : (c z t : Float) → Within 3 8 c → Within 1 4 z → Within 1 2 t → Within 1 2 (c -ᶠ z ·ᶠ t)
 term c z t p q h =
     weaker 4 8 1 2 (c -ᶠ z ·ᶠ t) (omega arith) (omega arith)
@@ -101,7 +99,7 @@ series-above m e f h =
     (mul-least 1 (2 ^ 149) 7 8 1 (2 ^ 149) (fin false (suc m) e) _ (pow-pos 152) (omega arith) (omega arith) (omega arith) smallest
     (not-below-smallest m e f) (factor-least (fin false (suc m) e) h))
 
--- ---- part of a u up to 1 with no sign
+-- ---- part of a u up to 1 with no sign: past 3/8, (u - 1)/(u + 1) is at most 5/8 over 11/8 in size; part is at most 22/16
 end-value : HasValue seriesEnd false 13898701 33554432
 unfolding ofBits
 end-value = (refl, refl)

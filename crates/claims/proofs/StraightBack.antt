@@ -1,20 +1,20 @@
 -- Document 02, K5: at a tie straight back the roll is to the right. Assumes nothing.
 use Prim.Native.Nat.{ℕ}
-use mathlib.Core.Path.{_≡_, refl, sym, ap, _∙_, subst}
+use mathlib.Core.Path.{_≡_, refl, sym, subst}
 use mathlib.Core.Bool.{Bool, true, false, cond, not, _&&_, _||_}
 use lib.Dec.{T}
-use lib.Ieee.{Float, binary32, fits, lt, le, eq, isNan}
+use lib.Ieee.{Float, binary32, fits, lt, le}
 use Rattle.arithmetic.specs.Constants.{_/ᶠ_, n0}
 use Rattle.arithmetic.specs.Order.{finite}
 use Rattle.arithmetic.specs.declared.vector.Vec2.{Vec2}
-use Rattle.arithmetic.proofs.Bounds.{and-left, and-right, le-of-lt}
+use Rattle.arithmetic.proofs.Bounds.{and-left, and-right, le-of-lt, zero-or-above}
 use Rattle.laws.specs.Config.{validate}
 use Rattle.laws.specs.Math.{clampSymmetric}
 use Rattle.laws.specs.Types.{gravity}
 use Rattle.laws.specs.Navigation.{l1, bankForAccel, trackAccel, loiterAccel, lateralAccel}
 use Rattle.laws.specs.declared.config.PlaneGuidanceConfig.{PlaneGuidanceConfig}
 use Rattle.laws.proofs.Validated.{valid-field}
-use Rattle.laws.proofs.Bank.{zero-or-above, bank-sign, bank-from-0, clamped-from-0, clamped-sign}
+use Rattle.laws.proofs.Bank.{bank-sign, bank-from-0, clamped-from-0, clamped-sign}
 use Rattle.laws.proofs.StraightBack.{leg-right, leg-from-0, tangent-right}
 use Rattle.laws.specs.declared.types.OptionF32.{OptionF32}
 use Rattle.laws.specs.declared.types.ControlInput.the-variants as Input

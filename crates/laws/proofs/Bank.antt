@@ -1,20 +1,17 @@
 -- The bank of an acceleration that is not below 0, within ± a limit: never below 0, and above 0 exactly where the acceleration over
 -- gravity and the limit are.
-use Prim.Native.Nat.{ℕ, _*_, _<_}
-use mathlib.Core.Path.{_≡_, refl, sym, ap, _∙_}
-use mathlib.Core.Bool.{Bool, true, false, cond, not, _&&_, _||_}
-use native.Mathlib.Nat.{zero-mul, mul-one}
-use native.Mathlib.Omega.{arith}
-use lib.Dec.{T, eqb, ltb}
-use lib.IntN.{ℤ, pos, negsuc}
-use lib.Ieee as Ieee
-use lib.Ieee.{Float, nan, inf, fin, binary32, up, down, lt, le, eq, neg, isNan, fits, ofBits, round, div}
+use Prim.Native.Nat.{_*_}
+use mathlib.Core.Path.{_≡_, refl, sym, _∙_}
+use mathlib.Core.Bool.{Bool, true, false, cond, _&&_, _||_}
+use lib.Dec.{T}
+use lib.IntN.{negsuc}
+use lib.Ieee.{Float, nan, inf, fin, binary32, up, down, lt, le, eq, neg, isNan, fits, ofBits, div}
 use lib.Ieee.Fits.{div-fits}
-use borrow.Author.Tests.{ltb-true, ltb-false, not-false, eq-eqb, ne-eqb}
+use borrow.Author.Tests.{not-false}
 use Rattle.arithmetic.specs.Constants.{_/ᶠ_, n0}
 use Rattle.arithmetic.specs.Order.{finite, clamp, choose}
 use Rattle.arithmetic.specs.Trigonometry.{arctangent}
-use Rattle.arithmetic.proofs.Bounds.{never, never′, AtLeastZero, an-inf, plain, minus-zero, at-least, between, both-zero, zero-is, zero-number}
+use Rattle.arithmetic.proofs.Bounds.{never, never′, an-inf, from-0, zero-or-above, zero-number}
 use Rattle.arithmetic.proofs.Bounds.{le-of-not-lt, le-of-lt, right-number, zero-between}
 use Rattle.arithmetic.proofs.Sums.{le-trans, le-not-lt, round-plain}
 use Rattle.arithmetic.proofs.Arctangent.{arctangent-above, arctangent-finite}
@@ -22,34 +19,6 @@ use Rattle.laws.specs.Math.{limitOrZero, clampSymmetric}
 use Rattle.laws.specs.Types.{gravity}
 use Rattle.laws.specs.Navigation.{bankForAccel}
 use Rattle.laws.proofs.Plus.{plus}
-
--- ---- a number that is not below 0 is a zero or above 0
-
-split : (a b : ℕ) → b ≡ 0 → ltb b a ≡ not (eqb a b && true)
-split a b z = go (ltb b a) refl
-  where
-    go : (t : Bool) → ltb b a ≡ t → t ≡ not (eqb a b && true)
-    go true h = let l = ltb-true b a h in rw (ne-eqb a b (apart a b l))
-      where
-        apart : (a b : ℕ) → b < a → a ≡ b → ⊥
-        apart a b l e = omega arith
-    go false h =
-        let l = ltb-false b a h in
-        let e : a ≡ b = omega arith in
-        rw (eq-eqb a b e)
-
-zero-or-above′ : {x : Float} → AtLeastZero x → lt (fin false 0 (pos 0)) x ≡ not (eq x (fin false 0 (pos 0)))
-unfolding lt eq
-zero-or-above′ an-inf = refl
-zero-or-above′ (plain m e) = split (m * up e * 1) (0 * down e) (zero-mul (down e))
-zero-or-above′ (minus-zero e) = ap not (sym (both-zero (0 * down e) (0 * up e * 1) (zero-mul (down e)) (mul-one (0 * up e) ∙ zero-mul (up e))))
-
-pub zero-or-above : (x : Float) → le n0 x ≡ true → lt n0 x ≡ not (eq x n0)
-zero-or-above x p = rw zero-is (zero-or-above′ (at-least x (rw zero-is at p)))
-
-from-0 : {x : Float} → AtLeastZero x → le n0 x ≡ true
-unfolding neg
-from-0 h = rw zero-is (between (minus-zero (pos 0)) h)
 
 -- ---- over gravity
 

@@ -1,16 +1,17 @@
--- Document 02's K5: at a tie straight back the angle steered is FRAC_PI_2 to the right.
+-- Document 02's K5: at a tie straight back the angle steered is FRAC_PI_2 to the right, and the acceleration over gravity is above 0 but
+-- for what is named.
 use mathlib.Core.Path.{_≡_, refl, sym, _∙_}
 use mathlib.Core.Bool.{Bool, true, false, cond, not, _||_}
-use Prim.Native.Nat.{ℕ, _*_, _^_}
+use Prim.Native.Nat.{ℕ, _^_}
 use native.Mathlib.Omega.{arith}
 use lib.Dec.{T}
 use lib.Pow.{pow-pos}
-use lib.Ieee as Ieee
 use lib.Ieee.{Float, nan, inf, fin, binary32, fits, isNan, neg, lt, le, eq, ofBits, add, sub, mul, div}
 use Rattle.arithmetic.specs.Constants.{_+ᶠ_, _-ᶠ_, _·ᶠ_, _/ᶠ_, n0, n1, pi, fracPi2, fracPi4}
 use Rattle.arithmetic.specs.Order.{clamp, finite, choose}
 use Rattle.arithmetic.specs.Trigonometry.{sine}
-use Rattle.arithmetic.proofs.Bounds.{never, never′, le-of-not-lt, le-of-lt, clamped-low, clamped-high, unclamped, right-number, nan-is, finite-number, lt-right}
+use Rattle.arithmetic.proofs.Bounds.{never, never′, le-of-not-lt, le-of-lt, clamped-low, clamped-high, unclamped, right-number, nan-is}
+use Rattle.arithmetic.proofs.Bounds.{finite-number, lt-right, zero-or-above}
 use Rattle.arithmetic.proofs.Sums.{le-trans, le-not-lt, le-neg, sub-mono, neg-finite, between-finite}
 use Rattle.arithmetic.proofs.Within.{Within, AtLeast, held, is-above, from-1, f32-within, mul-least, div-least, both-least}
 use Rattle.laws.specs.Math.{limitOrZero, clampSymmetric}
@@ -22,7 +23,7 @@ use Rattle.laws.specs.Navigation.{n4, maxCapture, difference, l1, tie, c
 use Rattle.laws.specs.Navigation.{leastLeg, leastOffset, along, rightOf, noCourse, level, trackBy, trackAccel, loiterBy, loiterAccel}
 use Rattle.laws.proofs.Steering.{or-left, or-right}
 use Rattle.laws.specs.Types.{gravity}
-use Rattle.laws.proofs.Bank.{zero-or-above, over-gravity}
+use Rattle.laws.proofs.Bank.{over-gravity}
 use Rattle.laws.proofs.Plus.{plus, plus-mul, plus-div, plus-add, plus-choose, plus-from-1, plus-above-0, zero-plus}
 
 -- ---- constants
@@ -201,7 +202,8 @@ module _ (position velocity point direction : Vec2) (speed period damping : Floa
   pub right-unless :
       tie direction velocity ≡ true → plus damping ≡ true → plus period ≡ true → plus speed ≡ true →
       lt n0 (trackAlong position velocity point direction speed period damping .«accel_mps2» /ᶠ gravity)
-      ≡ not (isNan (captureOf position velocity point direction distance) || not (finite (factor ·ᶠ sine fracPi2)) || eq (factor ·ᶠ sine fracPi2 /ᶠ gravity) n0)
+      ≡ not (isNan (captureOf position velocity point direction distance) || not (finite (factor ·ᶠ sine fracPi2))
+      || eq (factor ·ᶠ sine fracPi2 /ᶠ gravity) n0)
   right-unless straight d p s = go (isNan (captureOf position velocity point direction distance)) refl
     where
       turn : Float
@@ -360,7 +362,8 @@ module _ (position velocity point : Vec2) (radius period damping : Float) (d : l
       circle : AtLeast 1 (2 ^ 128) (speed ·ᶠ speed /ᶠ radius)
       circle =
           div-least 1 1 (2 ^ 128) 1 1 (2 ^ 128) (speed ·ᶠ speed) radius (pow-pos 128) (omega arith) (held 1 128 (omega arith) (omega arith))
-          (mul-least 1 1 1 1 1 1 speed speed (omega arith) (omega arith) (omega arith) (omega arith) (held 1 0 (omega arith) (omega arith)) (at-least-1 course) (at-least-1 course))
+          (mul-least 1 1 1 1 1 1 speed speed (omega arith) (omega arith) (omega arith) (omega arith) (held 1 0 (omega arith) (omega arith))
+          (at-least-1 course) (at-least-1 course))
           (f32-within radius f h) r
 
       around : AtLeast 1 (2 ^ 128) (speed ·ᶠ speed /ᶠ radius +ᶠ tracked)
