@@ -45,7 +45,8 @@ pub record TieOnLeg (w : WaypointCommand) (s : VehicleState) (direction : Vec2) 
   pub under-way : noCourse (norm (velocity s)) ≡ false
   pub straight-back : tie direction (velocity s) ≡ true
 
--- on a loiter's tangent: no finite leg, and more than 1e-3 off the centre, outward of which the tangent is a quarter turn to the right
+-- on a loiter's tangent: there is no finite leg, the plane is more than 1e-3 off the centre, and the tangent's direction is a quarter turn
+-- to the right of the direction outward
 pub record TieOnTangent (w : WaypointCommand) (s : VehicleState) (direction : Vec2) : Type 0 where
   pub outward : Vec2
   pub no-leg : finiteLeg (w .«velocity_mps») ≡ Leg.None
