@@ -6,7 +6,7 @@ use native.Mathlib.Nat.{zero-mul, mul-one, mul-pos}
 use native.Mathlib.Omega.{arith}
 use lib.Dec.{T, ltb, eqb}
 use lib.IntN.{ℤ, pos}
-use borrow.Author.Tests.{ltb-true, ltb-false, eqb-true, lt-ltb, le-ltb, eq-eqb}
+use borrow.Author.Tests.{ltb-true, ltb-false, eqb-true, lt-ltb, le-ltb, eq-eqb, ne-eqb}
 use lib.Ieee as Ieee
 use lib.Ieee.{Float, nan, inf, fin, binary32, ofBits, up, down, lt, le, eq, ne, neg, isNan}
 use lib.Ieee.Fits.{up-pos}
@@ -216,6 +216,33 @@ between (minus-zero x) (minus-zero d) = both-zero (0 * up d * down x) (0 * up x 
 -- -x ≤ y for x and y at least zero
 pub zero-between : (x y : Float) → le n0 x ≡ true → le n0 y ≡ true → le (neg x) y ≡ true
 zero-between x y p q = between (at-least x (rw zero-is at p)) (at-least y (rw zero-is at q))
+
+-- a number that is not below 0 is a zero or above 0
+split : (a b : ℕ) → b ≡ 0 → ltb b a ≡ not (eqb a b && true)
+split a b z = go (ltb b a) refl
+  where
+    go : (t : Bool) → ltb b a ≡ t → t ≡ not (eqb a b && true)
+    go true h = let l = ltb-true b a h in rw (ne-eqb a b (apart a b l))
+      where
+        apart : (a b : ℕ) → b < a → a ≡ b → ⊥
+        apart a b l e = omega arith
+    go false h =
+        let l = ltb-false b a h in
+        let e : a ≡ b = omega arith in
+        rw (eq-eqb a b e)
+
+zero-or-above′ : {x : Float} → AtLeastZero x → lt (fin false 0 (pos 0)) x ≡ not (eq x (fin false 0 (pos 0)))
+unfolding lt eq
+zero-or-above′ an-inf = refl
+zero-or-above′ (plain m e) = split (m * up e * 1) (0 * down e) (zero-mul (down e))
+zero-or-above′ (minus-zero e) = ap not (sym (both-zero (0 * down e) (0 * up e * 1) (zero-mul (down e)) (mul-one (0 * up e) ∙ zero-mul (up e))))
+
+pub zero-or-above : (x : Float) → le n0 x ≡ true → lt n0 x ≡ not (eq x n0)
+zero-or-above x p = rw zero-is (zero-or-above′ (at-least x (rw zero-is at p)))
+
+pub from-0 : {x : Float} → AtLeastZero x → le n0 x ≡ true
+unfolding neg
+from-0 h = rw zero-is (between (minus-zero (pos 0)) h)
 
 -- ---- least and greatest
 pub greatest-right : (a b : Float) → isNan b ≡ false → le b (greatest a b) ≡ true

@@ -59,10 +59,10 @@ module _ (s : Bool) (m : ℕ) (e : ℤ) (h : T (fits binary32 (fin s (suc m) e))
   few-digits : suc m < 2 ^ 24
   few-digits = ltb→lt (suc m) (2 ^ 24) (and-r (is-odd (suc m)) (few (suc m)) (and-l (is-odd (suc m) && few (suc m)) (coarse e) first-three))
 
-  not-too-small : down e ≤ 2 ^ 149
+  pub not-too-small : down e ≤ 2 ^ 149
   not-too-small = leb→le (down e) (2 ^ 149) (and-r (is-odd (suc m) && few (suc m)) (coarse e) first-three)
 
-  not-too-large : suc m * up e < 2 ^ 128 * down e
+  pub not-too-large : suc m * up e < 2 ^ 128 * down e
   not-too-large = ltb→lt (suc m * up e) (2 ^ 128 * down e) (and-r (is-odd (suc m) && few (suc m) && coarse e) (bounded (suc m) e) parts)
 
 -- the same value, by its units

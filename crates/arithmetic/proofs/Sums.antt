@@ -112,6 +112,28 @@ le-trans (fin s m e) (fin t n d) (fin u k c) p q =
     (through (above s (m * up e)) (under s (m * up e)) (down e) (above t (n * up d)) (under t (n * up d)) (down d) (above u (k * up c))
     (under u (k * up c)) (down c) (down-pos d) (cross s t m n e d p) (cross t u n k d c q))
 
+-- what is at most y is not above it
+pub le-not-lt : (x y : Float) → le x y ≡ true → lt y x ≡ false
+unfolding le lt
+le-not-lt nan y p = never p
+le-not-lt (inf s) nan p = never p
+le-not-lt (inf true) (inf true) p = refl
+le-not-lt (inf true) (inf false) p = refl
+le-not-lt (inf false) (inf true) p = never p
+le-not-lt (inf false) (inf false) p = refl
+le-not-lt (inf true) (fin t n d) p = refl
+le-not-lt (inf false) (fin t n d) p = never p
+le-not-lt (fin s m e) nan p = never p
+le-not-lt (fin s m e) (inf true) p = never p
+le-not-lt (fin s m e) (inf false) p = refl
+le-not-lt (fin s m e) (fin t n d) p = go s t (m * up e * down d) (n * up d * down e) (cross-of s t (m * up e * down d) (n * up d * down e) p)
+  where
+    go : (s t : Bool) (a b : ℕ) → above s a + under t b ≤ above t b + under s a → below t b s a ≡ false
+    go false false a b h = le-ltb b a (omega arith)
+    go false true a b h = le-ltb 0 (b + a) (omega arith)
+    go true false a b h = refl
+    go true true a b h = le-ltb a b (omega arith)
+
 -- ---- rounding and signs
 odd-neg : (d q k l : ℕ) → odd d true q k l ≡ neg (odd d false q k l)
 unfolding odd neg

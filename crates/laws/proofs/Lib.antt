@@ -1,4 +1,5 @@
 -- Laws about the definitions, for this crate's proofs and for crates above.
+pub mod Bank
 pub mod Idle
 pub mod OffLine
 pub mod Plus

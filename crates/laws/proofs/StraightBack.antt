@@ -1,20 +1,29 @@
--- Document 02's K5: at a tie straight back the angle steered is FRAC_PI_2 to the right.
+-- Document 02's K5: at a tie straight back the angle steered is FRAC_PI_2 to the right, and the acceleration over gravity is above 0 but
+-- for what is named.
 use mathlib.Core.Path.{_≡_, refl, sym, _∙_}
-use mathlib.Core.Bool.{Bool, true, false, cond, _||_}
-use lib.Ieee as Ieee
-use lib.Ieee.{Float, nan, inf, fin, isNan, neg, lt, le, eq, ofBits, add, sub, mul, div}
+use mathlib.Core.Bool.{Bool, true, false, cond, not, _||_}
+use Prim.Native.Nat.{ℕ, _^_}
+use native.Mathlib.Omega.{arith}
+use lib.Dec.{T}
+use lib.Pow.{pow-pos}
+use lib.Ieee.{Float, nan, inf, fin, binary32, fits, isNan, neg, lt, le, eq, ofBits, add, sub, mul, div}
 use Rattle.arithmetic.specs.Constants.{_+ᶠ_, _-ᶠ_, _·ᶠ_, _/ᶠ_, n0, n1, pi, fracPi2, fracPi4}
 use Rattle.arithmetic.specs.Order.{clamp, finite, choose}
 use Rattle.arithmetic.specs.Trigonometry.{sine}
 use Rattle.arithmetic.proofs.Bounds.{never, never′, le-of-not-lt, le-of-lt, clamped-low, clamped-high, unclamped, right-number, nan-is}
-use Rattle.arithmetic.proofs.Sums.{le-trans, le-neg, sub-mono, neg-finite, between-finite}
+use Rattle.arithmetic.proofs.Bounds.{finite-number, lt-right, zero-or-above}
+use Rattle.arithmetic.proofs.Sums.{le-trans, le-not-lt, le-neg, sub-mono, neg-finite, between-finite}
+use Rattle.arithmetic.proofs.Within.{Within, AtLeast, held, is-above, from-1, f32-within, mul-least, div-least, both-least}
 use Rattle.laws.specs.Math.{limitOrZero, clampSymmetric}
 use Rattle.arithmetic.specs.Vector.{norm, cross, normalise}
 use Rattle.arithmetic.specs.declared.vector.Vec2.{Vec2}
-use Rattle.arithmetic.specs.declared.vector.Normalised.the-variants.{Parts}
+use Rattle.arithmetic.specs.declared.vector.Normalised.{Normalised}
+use Rattle.arithmetic.specs.declared.vector.Normalised.the-variants.{None, Parts}
 use Rattle.laws.specs.Navigation.{n4, maxCapture, difference, l1, tie, course, capture, steeredRad, trackAlong, centripetal}
 use Rattle.laws.specs.Navigation.{leastLeg, leastOffset, along, rightOf, noCourse, level, trackBy, trackAccel, loiterBy, loiterAccel}
 use Rattle.laws.proofs.Steering.{or-left, or-right}
+use Rattle.laws.specs.Types.{gravity}
+use Rattle.laws.proofs.Bank.{over-gravity}
 use Rattle.laws.proofs.Plus.{plus, plus-mul, plus-div, plus-add, plus-choose, plus-from-1, plus-above-0, zero-plus}
 
 -- ---- constants
@@ -105,6 +114,10 @@ module _ (position velocity point direction : Vec2) where
   unfolding course capture
   steers-right distance straight number = rw straight (from-back _ (unclamped _ (neg maxCapture) maxCapture number))
 
+zero-finite : finite n0 ≡ true
+unfolding finite ofBits
+zero-finite = refl
+
 -- ---- a capture angle that is NaN gives no acceleration
 
 nan-product : (k : Float) → k ·ᶠ nan ≡ nan
@@ -135,6 +148,10 @@ pi-plus : plus pi ≡ true
 unfolding ofBits
 pi-plus = refl
 
+level-bank : lt n0 (n0 /ᶠ gravity) ≡ false
+unfolding ofBits div lt
+level-bank = refl
+
 module _ (position velocity point direction : Vec2) (speed period damping : Float) where
   abbrev distance : Float
   distance = damping ·ᶠ period ·ᶠ speed /ᶠ pi
@@ -154,10 +171,8 @@ module _ (position velocity point direction : Vec2) (speed period damping : Floa
   unfolding trackAlong l1 finite
   lost h = rw (nan-is (captureOf position velocity point direction distance) h, no-angle (course direction velocity), no-sine, nan-product factor)
 
-  pub never-left :
-      tie direction velocity ≡ true → plus damping ≡ true → plus period ≡ true → plus speed ≡ true →
-      plus (trackAlong position velocity point direction speed period damping .«accel_mps2») ≡ true
-  never-left straight d p s = go (isNan (captureOf position velocity point direction distance)) refl
+  quarter-turn-plus : plus damping ≡ true → plus period ≡ true → plus speed ≡ true → plus (factor ·ᶠ sine fracPi2) ≡ true
+  quarter-turn-plus d p s = plus-mul factor (sine fracPi2) factor-plus sine-plus
     where
       distance-plus : plus distance ≡ true
       distance-plus = plus-div (damping ·ᶠ period ·ᶠ speed) pi (plus-mul (damping ·ᶠ period) speed (plus-mul damping period d p) s) pi-plus
@@ -170,12 +185,39 @@ module _ (position velocity point direction : Vec2) (speed period damping : Floa
           plus-div (n4 ·ᶠ damping ·ᶠ damping ·ᶠ speed ·ᶠ speed) distance
           (plus-mul (n4 ·ᶠ damping ·ᶠ damping ·ᶠ speed) speed (plus-mul (n4 ·ᶠ damping ·ᶠ damping) speed gain-plus s) s) distance-plus
 
+  pub never-left :
+      tie direction velocity ≡ true → plus damping ≡ true → plus period ≡ true → plus speed ≡ true →
+      plus (trackAlong position velocity point direction speed period damping .«accel_mps2») ≡ true
+  never-left straight d p s = go (isNan (captureOf position velocity point direction distance)) refl
+    where
       go : (b : Bool) → isNan (captureOf position velocity point direction distance) ≡ b
           → plus (trackAlong position velocity point direction speed period damping .«accel_mps2») ≡ true
       go true h = rw (lost h) zero-plus
       go false h =
           rw (at-a-tie straight h)
-          (plus-choose (finite (factor ·ᶠ sine fracPi2)) (factor ·ᶠ sine fracPi2) (plus-mul factor (sine fracPi2) factor-plus sine-plus))
+          (plus-choose (finite (factor ·ᶠ sine fracPi2)) (factor ·ᶠ sine fracPi2) (quarter-turn-plus d p s))
+
+  -- the acceleration over gravity is above 0, unless the capture angle is NaN, or the quarter turn's acceleration is not finite or over
+  -- gravity rounds to 0
+  pub right-unless :
+      tie direction velocity ≡ true → plus damping ≡ true → plus period ≡ true → plus speed ≡ true →
+      lt n0 (trackAlong position velocity point direction speed period damping .«accel_mps2» /ᶠ gravity)
+      ≡ not (isNan (captureOf position velocity point direction distance) || not (finite (factor ·ᶠ sine fracPi2))
+      || eq (factor ·ᶠ sine fracPi2 /ᶠ gravity) n0)
+  right-unless straight d p s = go (isNan (captureOf position velocity point direction distance)) refl
+    where
+      turn : Float
+      turn = factor ·ᶠ sine fracPi2
+
+      by : (b : Bool) → finite turn ≡ b → lt n0 (choose b turn n0 /ᶠ gravity) ≡ not (false || not b || eq (turn /ᶠ gravity) n0)
+      by true h = zero-or-above (turn /ᶠ gravity) (over-gravity turn (quarter-turn-plus d p s) (finite-number turn h))
+      by false h = level-bank
+
+      go : (b : Bool) → isNan (captureOf position velocity point direction distance) ≡ b
+          → lt n0 (trackAlong position velocity point direction speed period damping .«accel_mps2» /ᶠ gravity)
+          ≡ not (b || not (finite turn) || eq (turn /ᶠ gravity) n0)
+      go true h = rw (lost h) level-bank
+      go false h = rw (at-a-tie straight h) (by (finite turn) refl)
 
 -- a loiter adds its circle's acceleration, which is to the right too
 pub loiter-never-left :
@@ -186,6 +228,36 @@ loiter-never-left speed radius tracked s r t =
     plus-add (speed ·ᶠ speed /ᶠ radius) tracked (plus-div (speed ·ᶠ speed) radius (plus-mul speed speed s s) r) t
 
 -- ---- the laws, for a valid damping, period and radius
+
+chosen-finite : (x : Float) → finite (choose (finite x) x n0) ≡ true
+chosen-finite x = go (finite x) refl
+  where
+    go : (b : Bool) → finite x ≡ b → finite (choose b x n0) ≡ true
+    go true h = h
+    go false h = zero-finite
+
+not-at-most-0 : (x : Float) → lt n0 x ≡ true → le x n0 ≡ false
+not-at-most-0 x h = go (le x n0) refl
+  where
+    go : (b : Bool) → le x n0 ≡ b → b ≡ false
+    go true e = never′ (sym h ∙ le-not-lt x n0 e)
+    go false e = refl
+
+gravity-within : Within 16 1 gravity
+unfolding ofBits
+gravity-within = omega arith
+
+gravity-above : lt n0 gravity ≡ true
+unfolding ofBits lt
+gravity-above = refl
+
+-- a finite number without a minus sign is at least 0
+plus-least : (q : ℕ) (x : Float) → plus x ≡ true → finite x ≡ true → AtLeast 0 q x
+unfolding finite
+plus-least q nan p f = never f
+plus-least q (inf s) p f = never f
+plus-least q (fin true m e) p f = never p
+plus-least q (fin false m e) p f = omega arith
 
 module _ (position velocity point : Vec2) (radius period damping : Float) (d : lt n0 damping ≡ true) (p : lt n0 period ≡ true) where
   no-less : noCourse (norm velocity) ≡ false → plus (norm velocity) ≡ true
@@ -229,3 +301,72 @@ module _ (position velocity point : Vec2) (radius period damping : Float) (d : l
           → plus ((cond b (level slow) (loiterBy position velocity point radius period damping (Parts outward))) .«accel_mps2») ≡ true
       go true h = zero-plus
       go false h = around (or-left slow (isNan radius) (or-left (slow || isNan radius) (le radius n0) h))
+
+  -- ---- above 0
+
+  at-least-1 : noCourse (norm velocity) ≡ false → AtLeast 1 1 (norm velocity)
+  unfolding noCourse
+  at-least-1 h =
+      from-1 (norm velocity) (or-left (isNan (norm velocity)) (lt (norm velocity) n1) h) (or-right (isNan (norm velocity)) (lt (norm velocity) n1) h)
+
+  track-finite : (through : Vec2) (n : Normalised) → finite (trackBy position velocity through period damping n .«accel_mps2») ≡ true
+  unfolding trackBy trackAlong
+  track-finite through None = zero-finite
+  track-finite through (Parts direction) = go (noCourse (norm velocity))
+    where
+      go : (b : Bool) →
+          finite ((cond b (level true) (trackAlong position velocity through direction (norm velocity) period damping)) .«accel_mps2») ≡ true
+      go true = zero-finite
+      go false = chosen-finite _
+
+  -- a leg: by the quarter turn's acceleration
+  pub leg-right :
+      (through leg direction : Vec2) → normalise leg leastLeg ≡ Parts direction → noCourse (norm velocity) ≡ false → tie direction velocity ≡ true →
+      let turn = factor position velocity through direction (norm velocity) period damping ·ᶠ sine fracPi2 in
+      lt n0 (trackAccel position velocity through leg period damping .«accel_mps2» /ᶠ gravity)
+      ≡ not (isNan (captureOf position velocity through direction (distance position velocity through direction (norm velocity) period damping))
+      || not (finite turn) || eq (turn /ᶠ gravity) n0)
+  unfolding trackAccel trackBy
+  leg-right through leg direction n course straight =
+      rw (n, course)
+      (right-unless position velocity through direction (norm velocity) period damping straight (plus-above-0 damping d) (plus-above-0 period p) (no-less course))
+
+  pub leg-from-0 :
+      (through leg direction : Vec2) → normalise leg leastLeg ≡ Parts direction → tie direction velocity ≡ true →
+      le n0 (trackAccel position velocity through leg period damping .«accel_mps2» /ᶠ gravity) ≡ true
+  unfolding trackAccel
+  leg-from-0 through leg direction n straight =
+      over-gravity _ (leg-never-left through leg direction n straight) (finite-number _ (track-finite through (normalise leg leastLeg)))
+
+  -- a loiter's tangent: at least 2 ^ -132, since the ground speed is at least 1 and the radius below 2 ^ 128
+  pub tangent-right :
+      (outward direction : Vec2) → normalise (difference position point) leastOffset ≡ Parts outward →
+      normalise (rightOf outward) leastLeg ≡ Parts direction → noCourse (norm velocity) ≡ false → tie direction velocity ≡ true →
+      lt n0 radius ≡ true → finite radius ≡ true → T (fits binary32 radius) →
+      lt n0 (loiterAccel position velocity point radius period damping .«accel_mps2» /ᶠ gravity) ≡ true
+  unfolding loiterAccel loiterBy centripetal trackAccel
+  tangent-right outward direction o n course straight r f h =
+      rw (course, lt-right n0 radius r, not-at-most-0 radius r, o)
+      (is-above 1 (2 ^ 132) _ (omega arith)
+      (div-least 1 (2 ^ 128) 16 1 1 (2 ^ 132) _ gravity (pow-pos 132) (omega arith) (held 1 132 (omega arith) (omega arith)) around gravity-within gravity-above))
+    where
+      speed : Float
+      speed = norm velocity
+
+      tracked : Float
+      tracked = trackAccel position velocity (along point outward radius) (rightOf outward) period damping .«accel_mps2»
+
+      tracked-finite : finite tracked ≡ true
+      tracked-finite = track-finite (along point outward radius) (normalise (rightOf outward) leastLeg)
+
+      circle : AtLeast 1 (2 ^ 128) (speed ·ᶠ speed /ᶠ radius)
+      circle =
+          div-least 1 1 (2 ^ 128) 1 1 (2 ^ 128) (speed ·ᶠ speed) radius (pow-pos 128) (omega arith) (held 1 128 (omega arith) (omega arith))
+          (mul-least 1 1 1 1 1 1 speed speed (omega arith) (omega arith) (omega arith) (omega arith) (held 1 0 (omega arith) (omega arith))
+          (at-least-1 course) (at-least-1 course))
+          (f32-within radius f h) r
+
+      around : AtLeast 1 (2 ^ 128) (speed ·ᶠ speed /ᶠ radius +ᶠ tracked)
+      around =
+          both-least 1 0 (2 ^ 128) (speed ·ᶠ speed /ᶠ radius) tracked (pow-pos 128) (omega arith) (held 1 128 (omega arith) (omega arith)) circle
+          (plus-least (2 ^ 128) tracked (leg-never-left (along point outward radius) (rightOf outward) direction n straight) tracked-finite)

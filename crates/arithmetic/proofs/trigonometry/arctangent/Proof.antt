@@ -17,7 +17,7 @@ use Rattle.arithmetic.specs.Order.{size, negative}
 use Rattle.arithmetic.specs.Trigonometry.{seriesEnd, series, part, arctangentOfSize, arctangent}
 use Rattle.arithmetic.proofs.Bounds.{never′, ne-self, zero-is}
 use Rattle.arithmetic.proofs.Signs.{size-bits, size-number, size-unsigned, is-number, signed-bits, signed-number}
-use Rattle.arithmetic.proofs.Within.{arctangent-number}
+use Rattle.arithmetic.proofs.Arctangent.{arctangent-number}
 use Rattle.arithmetic.proofs.trigonometry.arctangent.Statement.{statement}
 use Rattle.arithmetic.proofs.trigonometry.arctangent.Tie as tie
 
