@@ -1,4 +1,4 @@
-// The one function by reference: the host's guidance is copied out, `run` does the work by value, and what it may have
+// The one function by reference: the host's guidance is copied out, `run_by` does the work by value, and what it may have
 // changed is put back.
 use calls::perform;
 use guidance::plane::Created;
@@ -11,6 +11,8 @@ use records::call::ReadCall;
 use records::call::read_call;
 use records::config::ReadConfig;
 use records::config::read_config;
+use rights::Deed;
+use rights::may;
 ghost use mathlib.Core.Path.{_≡_};
 ghost use Rattle.host.specs.Run as spec;
 
@@ -123,13 +125,50 @@ pub fn run(g: PlaneGuidance, what: u32, bytes: &[u8]) -> Ran
     }
 }
 
+// A call record is a guide or a prime, which the same callers may do: the right is judged before a byte is read.
+fn deed_of(what: u32) -> Deed
+    ensures { λ r. ⌜ r ≡ spec.deedOf what ⌝ }
+{
+    if what == 0 {
+        return Deed::Guide;
+    }
+    if what == 1 {
+        return Deed::SetConfig;
+    }
+    if what == 2 {
+        return Deed::New;
+    }
+    if what == 3 {
+        return Deed::TakeBack;
+    }
+    Deed::Other
+}
+
+// Number 13 comes first.
+pub fn run_by(g: PlaneGuidance, caller: u32, what: u32, bytes: &[u8]) -> Ran
+    ensures { λ r. ⌜ r ≡ spec.runBy g caller what (now (bytes .entry)) ⌝ }
+{
+    if may(caller, deed_of(what)) {
+        return run(g, what, bytes);
+    }
+    Ran {
+        guidance: g,
+        answer: bare(13, 0, 0),
+    }
+}
+
 // A call changes no configuration, neither the one in force nor the kept one: they are put back only where they may have changed.
 #[no_mangle]
-pub extern "C" fn nuthkolla_run(guidance: &mut PlaneGuidance, what: u32, bytes: &[u8]) -> RunAnswer
-    ensures { λ r. ⌜ (now (guidance .exit) ≡ spec.run (now (guidance .entry)) what (now (bytes .entry)) .guidance) × (r ≡ spec.run (now (guidance .entry)) what (now (bytes .entry)) .answer) ⌝ }
+pub extern "C" fn nuthkolla_run(
+    guidance: &mut PlaneGuidance,
+    caller: u32,
+    what: u32,
+    bytes: &[u8],
+) -> RunAnswer
+    ensures { λ r. ⌜ (now (guidance .exit) ≡ spec.runBy (now (guidance .entry)) caller what (now (bytes .entry)) .guidance) × (r ≡ spec.runBy (now (guidance .entry)) caller what (now (bytes .entry)) .answer) ⌝ }
 {
     let g = *guidance;
-    let r = run(g, what, bytes);
+    let r = run_by(g, caller, what, bytes);
     if what != 0 {
         guidance.config = r.guidance.config;
         guidance.former = r.guidance.former;
