@@ -1,5 +1,6 @@
 -- "The skipper does everything; a deckhand may guide, on a route too, prime and read the mode report; a watcher only reads it."
--- K12's report all callers may read. Definitions only.
+-- K12's report all callers may read. Whatever replays records or draws a path acts as the skipper: replay, compaction and path, and
+-- what stands on them, take no caller. Definitions only.
 use Prim.Native.Nat.{ℕ}
 use mathlib.Core.Bool.{Bool, true, false, cond}
 use lib.Dec.{eqb}

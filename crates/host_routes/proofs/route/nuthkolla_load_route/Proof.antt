@@ -13,8 +13,7 @@ returns : tie.Need-returns
 unfolding loadBy loadBufferBy
 returns c =
     let d = c .before .before .before in
-    let b = d .before .before in
-    (
+    let b = d .before .before in (
       rw (c .loaded-of .ensures, d .load-route .ensures .0, ← b .before .may .ensures, b .if1 .taken),
       rw (d .load-route .ensures .1, ← b .before .may .ensures, b .if1 .taken),
     )

@@ -13,8 +13,7 @@ returns : tie.Need-returns
 unfolding writeBy writeBufferBy
 returns c =
     let d = c .before .before .before in
-    let b = d .before .before in
-    (
+    let b = d .before .before in (
       rw (c .place-of .ensures, d .write-route .ensures .0, ← b .before .may .ensures, b .if1 .taken),
       rw (d .write-route .ensures .1, ← b .before .may .ensures, b .if1 .taken),
     )
