@@ -31,7 +31,7 @@ static void print_state(unsigned long n)
 /* A call or a set-configuration; the bytes that its record has. */
 static size_t run(unsigned long n, uint32_t what, const uint8_t *p, size_t length)
 {
-    nuthkolla_answer a = nuthkolla_run(&guidance, what, p, length);
+    nuthkolla_answer a = nuthkolla_run(&guidance, NUTHKOLLA_SKIPPER, what, p, length);
     if (what == NUTHKOLLA_CALL)
         print_answer(stdout, n, &a);
     else if (what == NUTHKOLLA_TAKE_BACK)
@@ -45,7 +45,7 @@ static size_t run(unsigned long n, uint32_t what, const uint8_t *p, size_t lengt
 
 static void load(unsigned long n, const uint8_t *p, size_t length)
 {
-    nuthkolla_route_loaded l = nuthkolla_load_route(p, length, 0, route.numbers, NUTHKOLLA_ROUTE_NUMBERS);
+    nuthkolla_route_loaded l = nuthkolla_load_route(NUTHKOLLA_SKIPPER, p, length, 0, route.numbers, NUTHKOLLA_ROUTE_NUMBERS);
     if (l.refusal != 0) {
         printf("%lu refused %u\n", n, l.refusal);
         return;
@@ -65,7 +65,7 @@ static void fly(unsigned long n, const uint8_t *p)
     c.airspeed_mps = number(p + 40);
     c.has_cap = word(p + 44);
     c.pitch_cap_rad = number(p + 48);
-    nuthkolla_route_answer a = nuthkolla_run_route(&guidance, c, route.numbers, NUTHKOLLA_ROUTE_NUMBERS);
+    nuthkolla_route_answer a = nuthkolla_run_route(&guidance, NUTHKOLLA_SKIPPER, c, route.numbers, NUTHKOLLA_ROUTE_NUMBERS);
     route.number = a.number;
     print_answer(stdout, n, &a.answer);
 }
@@ -74,7 +74,7 @@ static void write_out(unsigned long n, size_t length, size_t at)
 {
     static uint8_t out[1 << 16];
     memset(out, 0xa5, sizeof out);
-    nuthkolla_place done = nuthkolla_write_route(out, length, at, route.map, route.numbers, NUTHKOLLA_ROUTE_NUMBERS);
+    nuthkolla_place done = nuthkolla_write_route(NUTHKOLLA_SKIPPER, out, length, at, route.map, route.numbers, NUTHKOLLA_ROUTE_NUMBERS);
     if (done.refusal == 0)
         printf("%lu written %zu ", n, done.next);
     else
@@ -87,7 +87,7 @@ static void write_out(unsigned long n, size_t length, size_t at)
 int main(void)
 {
     size_t length = fread(input, 1, sizeof input, stdin);
-    nuthkolla_answer made = nuthkolla_run(&guidance, NUTHKOLLA_NEW, input, length);
+    nuthkolla_answer made = nuthkolla_run(&guidance, NUTHKOLLA_SKIPPER, NUTHKOLLA_NEW, input, length);
     if (made.refusal != 0) {
         printf("config %s\n", made.refusal == 1 ? "refused" : "stopped");
         return 0;

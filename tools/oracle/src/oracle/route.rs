@@ -21,7 +21,7 @@ type Point = [f32; 4]; // north, east, altitude, cruise speed
 pub struct Route {
     map: u32,
     points: Vec<Point>,
-    number: usize,
+    pub number: usize,
 }
 
 /// What comes with a route call.
@@ -67,6 +67,12 @@ impl Route {
         let mut bytes = self.map.to_le_bytes().to_vec();
         bytes.extend(self.points.iter().flatten().flat_map(|number| number.to_le_bytes()));
         bytes
+    }
+
+    /// The map, and a sum of the points' bits.
+    pub fn text(&self) -> String {
+        let sum = |sum: u32, number: &f32| sum.wrapping_mul(16_777_619).wrapping_add(number.to_bits());
+        format!("{:x} {:08x}", self.map, self.points.iter().flatten().fold(0, sum))
     }
 
     /// Point `number`, from 1 on.
@@ -122,12 +128,12 @@ fn fly(guidance: &mut Plane, route: &mut Route, radius: f32, given: &Given) -> R
     Ok(answer)
 }
 
-struct Run<'a> {
-    input: &'a [u8],
-    place: usize,
-    guidance: Plane,
-    settings: Settings,
-    route: Route,
+pub struct Run<'a> {
+    pub input: &'a [u8],
+    pub place: usize,
+    pub guidance: Plane,
+    pub settings: Settings,
+    pub route: Route,
 }
 
 impl Run<'_> {
@@ -142,7 +148,7 @@ impl Run<'_> {
     }
 
     /// The text of the next entry's line; none where the list is broken.
-    fn next(&mut self) -> Option<String> {
+    pub fn next(&mut self) -> Option<String> {
         match self.take(1)?[0] {
             0 => {
                 let (call, next) = record::read_call(self.input, self.place).ok()?;
