@@ -151,7 +151,7 @@ pub struct Crossed {
 /// ```
 /// let mut config = nuthkolla::PlaneGuidanceConfig::default();
 /// (config.tecs.min_airspeed_mps, config.tecs.max_airspeed_mps) = (25.0, 10.0);
-/// let refused = nuthkolla::PlaneGuidance::new(config).unwrap_err();
+/// let refused = nuthkolla::PlaneGuidance::new(nuthkolla::Caller::Skipper, config).unwrap_err();
 /// assert_eq!(refused.to_string(), "refused 1: field 34: tecs.min_airspeed_mps 25 is above tecs.max_airspeed_mps 10");
 /// ```
 #[derive(Clone, Copy, Debug, PartialEq)]

@@ -1,6 +1,6 @@
 -- The calls on a guidance that a host holds, by the number of what is wanted and a record's bytes. Definitions only.
 use Prim.Native.Nat.{ℕ}
-use mathlib.Core.Bool.{cond}
+use mathlib.Core.Bool.{Bool, cond}
 use mathlib.Core.List.{List}
 use lib.Dec.{eqb}
 use Rattle.guidance.specs.Plane.{created}
@@ -81,6 +81,9 @@ deedOf what =
     (cond (eqb what 3) deed.TakeBack
     deed.Other)))
 
+abbrev pub mayRun : ℕ → ℕ → Bool
+mayRun caller what = may caller (deedOf what)
+
 -- "13: the caller lacks the right, before every other check", of the record's bytes too
 unfoldable pub runBy : PlaneGuidance → ℕ → ℕ → List ℕ → Ran
-runBy g caller what bytes = cond (may caller (deedOf what)) (run g what bytes) (unchanged g 13 0 0)
+runBy g caller what bytes = cond (mayRun caller what) (run g what bytes) (unchanged g 13 0 0)

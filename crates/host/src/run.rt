@@ -126,29 +126,29 @@ pub fn run(g: PlaneGuidance, what: u32, bytes: &[u8]) -> Ran
 }
 
 // A call record is a guide or a prime, which the same callers may do: the right is judged before a byte is read.
-fn deed_of(what: u32) -> Deed
-    ensures { λ r. ⌜ r ≡ spec.deedOf what ⌝ }
+fn may_run(caller: u32, what: u32) -> bool
+    ensures { λ r. ⌜ r ≡ spec.mayRun caller what ⌝ }
 {
     if what == 0 {
-        return Deed::Guide;
+        return may(caller, Deed::Guide);
     }
     if what == 1 {
-        return Deed::SetConfig;
+        return may(caller, Deed::SetConfig);
     }
     if what == 2 {
-        return Deed::New;
+        return may(caller, Deed::New);
     }
     if what == 3 {
-        return Deed::TakeBack;
+        return may(caller, Deed::TakeBack);
     }
-    Deed::Other
+    may(caller, Deed::Other)
 }
 
 // Number 13 comes first.
 pub fn run_by(g: PlaneGuidance, caller: u32, what: u32, bytes: &[u8]) -> Ran
     ensures { λ r. ⌜ r ≡ spec.runBy g caller what (now (bytes .entry)) ⌝ }
 {
-    if may(caller, deed_of(what)) {
+    if may_run(caller, what) {
         return run(g, what, bytes);
     }
     Ran {

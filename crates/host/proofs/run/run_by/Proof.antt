@@ -4,15 +4,11 @@ use Rattle.host.proofs.run.run_by.Tie as tie
 
 returns : tie.Need-returns
 unfolding runBy
-returns c =
-    let d = c .before .before in
-    rw (c .run .ensures, ← d .before .deed-of .ensures, ← d .may .ensures, c .before .if1 .taken)
+returns c = rw (c .run .ensures, ← c .before .before .may-run .ensures, c .before .if1 .taken)
 
 returns-2 : tie.Need-returns-2
 unfolding runBy
-returns-2 c =
-    let d = c .before .before in
-    rw (c .bare .ensures, ← d .before .deed-of .ensures, ← d .may .ensures, c .before .if1 .left)
+returns-2 c = rw (c .bare .ensures, ← c .before .before .may-run .ensures, c .before .if1 .left)
 
 pub run-by-spec : {M : Type 1} → statement M
-run-by-spec = tie.close (tie.spec (λ c κs. tt) (λ c κs. tt) (λ c κs. tt) returns (λ c κs. tt) returns-2)
+run-by-spec = tie.close (tie.spec (λ c κs. tt) (λ c κs. tt) returns (λ c κs. tt) returns-2)
