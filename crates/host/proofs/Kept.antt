@@ -38,8 +38,8 @@ run-keeps g bytes = read-keeps g (readCall bytes 0)
 
 pub run-by-keeps : (g : PlaneGuidance) (caller : ℕ) (bytes : List ℕ) → settingsOf (runBy g caller 0 bytes .guidance) ≡ settingsOf g
 unfolding runBy
-run-by-keeps g caller bytes = go (may caller (deedOf 0))
+run-by-keeps g caller bytes = go (may caller (deedOf 0)) _
   where
-    go : (b : Bool) → settingsOf (cond b (run g 0 bytes) (unchanged g 13 0 0) .guidance) ≡ settingsOf g
-    go true = run-keeps g bytes
-    go false = refl
+    go : (b : Bool) (n : ℕ) → settingsOf (cond b (run g 0 bytes) (unchanged g n 0 0) .guidance) ≡ settingsOf g
+    go true n = run-keeps g bytes
+    go false n = refl

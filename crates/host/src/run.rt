@@ -15,6 +15,7 @@ use rights::Deed;
 use rights::may;
 ghost use mathlib.Core.Path.{_≡_};
 ghost use Rattle.host.specs.Run as spec;
+ghost use Rattle.host.specs.code.Dispatch as code;
 
 // The guidance after a call, and the call's answer.
 pub struct Ran {
@@ -104,8 +105,9 @@ fn run_back(g: PlaneGuidance) -> Ran
     }
 }
 
-pub fn run(g: PlaneGuidance, what: u32, bytes: &[u8]) -> Ran
-    ensures { λ r. ⌜ r ≡ spec.run g what (now (bytes .entry)) ⌝ }
+// A number that no call has is refused with `unknown`.
+fn run_or(g: PlaneGuidance, what: u32, unknown: u32, bytes: &[u8]) -> Ran
+    ensures { λ r. ⌜ r ≡ code.runOr g what unknown (now (bytes .entry)) ⌝ }
 {
     if what == 0 {
         return run_call(g, bytes);
@@ -121,7 +123,7 @@ pub fn run(g: PlaneGuidance, what: u32, bytes: &[u8]) -> Ran
     }
     Ran {
         guidance: g,
-        answer: bare(255, 0, 0),
+        answer: bare(unknown, 0, 0),
     }
 }
 
@@ -144,17 +146,26 @@ fn may_run(caller: u32, what: u32) -> bool
     may(caller, Deed::Other)
 }
 
-// Number 13 comes first.
+fn number_for(right: bool, what: u32) -> u32
+    ensures { λ r. ⌜ r ≡ code.numberFor right what ⌝ }
+{
+    if right { what } else { 4 }
+}
+
+fn refusal_for(right: bool) -> u32
+    ensures { λ r. ⌜ r ≡ code.refusalFor right ⌝ }
+{
+    if right { 255 } else { 13 }
+}
+
+// Number 13 comes first: without the right a call is one that no number has, but for its refusal. So one place refuses, which is faster.
 pub fn run_by(g: PlaneGuidance, caller: u32, what: u32, bytes: &[u8]) -> Ran
     ensures { λ r. ⌜ r ≡ spec.runBy g caller what (now (bytes .entry)) ⌝ }
 {
-    if may_run(caller, what) {
-        return run(g, what, bytes);
-    }
-    Ran {
-        guidance: g,
-        answer: bare(13, 0, 0),
-    }
+    let right = may_run(caller, what);
+    let number = number_for(right, what);
+    let unknown = refusal_for(right);
+    run_or(g, number, unknown, bytes)
 }
 
 // A call changes no configuration, neither the one in force nor the kept one: they are put back only where they may have changed.
