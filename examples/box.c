@@ -89,9 +89,26 @@ static void try_wider_bank(nuthkolla_guidance *guidance)
     wider.max_bank_rad = 1.0f;
     uint8_t record[NUTHKOLLA_CONFIG_BYTES];
     size_t length = nuthkolla_write_config(record, sizeof record, 0, wider).next;
-    must(nuthkolla_run(guidance, NUTHKOLLA_SET_CONFIG, record, length).refusal == 0, "the wider bank is refused");
-    must(nuthkolla_run(guidance, NUTHKOLLA_TAKE_BACK, record, 0).refusal == 0, "nothing to take back");
-    must(nuthkolla_run(guidance, NUTHKOLLA_TAKE_BACK, record, 0).refusal == 14, "taken back twice");
+    must(nuthkolla_run(guidance, NUTHKOLLA_SKIPPER, NUTHKOLLA_SET_CONFIG, record, length).refusal == 0, "the wider bank is refused");
+    must(nuthkolla_run(guidance, NUTHKOLLA_SKIPPER, NUTHKOLLA_TAKE_BACK, record, 0).refusal == 0, "nothing to take back");
+    must(nuthkolla_run(guidance, NUTHKOLLA_SKIPPER, NUTHKOLLA_TAKE_BACK, record, 0).refusal == 14, "taken back twice");
+}
+
+/* A deckhand tries the wider bank too, and someone who may only watch sends a prime and a landing, then reads the two reports. The
+ * display hears of none of it: what is forbidden leaves no trace. */
+static void try_without_the_right(nuthkolla_guidance *guidance)
+{
+    uint8_t record[NUTHKOLLA_CONFIG_BYTES];
+    size_t length = nuthkolla_write_config(record, sizeof record, 0, guidance->config).next;
+    must(nuthkolla_run(guidance, NUTHKOLLA_DECKHAND, NUTHKOLLA_SET_CONFIG, record, length).refusal == 13, "a deckhand sets");
+    nuthkolla_call sent = {0};
+    for (sent.kind = NUTHKOLLA_PRIME; sent.kind <= NUTHKOLLA_LAND; sent.kind += NUTHKOLLA_LAND) {
+        length = nuthkolla_write_call(record, sizeof record, 0, sent).next;
+        must(nuthkolla_run(guidance, NUTHKOLLA_WATCHER, NUTHKOLLA_CALL, record, length).refusal == 13, "a watcher flies");
+    }
+    must(nuthkolla_report(*guidance, NUTHKOLLA_WATCHER, NUTHKOLLA_MODE).refusal == 0, "no mode report");
+    must(nuthkolla_report(*guidance, NUTHKOLLA_WATCHER, NUTHKOLLA_STALL_GUARD).refusal == 0, "no report of the guard");
+    must(nuthkolla_report(*guidance, 3, NUTHKOLLA_MODE).refusal == 13, "a stranger reads");
 }
 
 int main(int count, char **words)
@@ -106,17 +123,19 @@ int main(int count, char **words)
     uint8_t record[NUTHKOLLA_CONFIG_BYTES];
     size_t length = nuthkolla_write_config(record, sizeof record, 0, config).next;
     nuthkolla_guidance guidance = {0};
-    must(nuthkolla_run(&guidance, NUTHKOLLA_NEW, record, length).refusal == 0, "the configuration is refused");
+    must(nuthkolla_run(&guidance, NUTHKOLLA_SKIPPER, NUTHKOLLA_NEW, record, length).refusal == 0, "the configuration is refused");
     must(fwrite(record, 1, length, stdout) == length, "the cable is cut");
 
     plane p = {0, 0, 0, 0.3, 14, 0, 0};
     for (int step = 0; step < STEPS; step++) {
         if (step % 400 == 200)
             try_wider_bank(&guidance);
+        if (step % 100 == 50)
+            try_without_the_right(&guidance);
         nuthkolla_place end = nuthkolla_write_call(record, sizeof record, 0, command(&p, step));
         must(end.refusal == 0, "no record");
         must(fwrite(record, 1, end.next, stdout) == end.next, "the cable is cut");
-        nuthkolla_answer answer = nuthkolla_run(&guidance, NUTHKOLLA_CALL, record, end.next);
+        nuthkolla_answer answer = nuthkolla_run(&guidance, NUTHKOLLA_DECKHAND, NUTHKOLLA_CALL, record, end.next);
         print_answer(lines, (unsigned long)step + 1, &answer);
         fly(&p, &answer, 0.1);
     }

@@ -14,7 +14,8 @@
  * positive. Numbers are IEEE 754 binary32. Any NaN may come back as another NaN.
  *
  * Refusals, and 0 for none, in checking order:
- * 255  nuthkolla_run was asked for something that it does not know
+ *  13  the caller lacks the right (the table of rights is below), before every other check, of a record's bytes too
+ * 255  nuthkolla_run or nuthkolla_report was asked for something that it does not know
  * of a record, which is read whole before its call or configuration is judged:
  *   5  its map is cut short, or the place is past the end
  *   6  its map has an unnamed bit, lacks the kind bit, or has half a leg; a route's second map is empty
@@ -129,6 +130,27 @@ typedef struct nuthkolla_guidance {
     } former;
 } nuthkolla_guidance;
 
+/* ---- callers */
+
+/* Each call on a guidance or its route comes from one of these. A number above 2 has no right at all.
+ *
+ *                                   skipper  deckhand  watcher
+ *   NUTHKOLLA_NEW                   yes      -         -
+ *   NUTHKOLLA_CALL, guide or prime  yes      yes       -
+ *   NUTHKOLLA_SET_CONFIG            yes      -         -
+ *   NUTHKOLLA_TAKE_BACK             yes      -         -
+ *   nuthkolla_load_route            yes      -         -
+ *   nuthkolla_write_route           yes      -         -
+ *   nuthkolla_run_route             yes      yes       -
+ *   NUTHKOLLA_MODE                  yes      yes       yes
+ *   NUTHKOLLA_STALL_GUARD           yes      yes       yes
+ *   any other number                yes      -         -      (the skipper is then refused with 255)
+ *
+ * A call without the right is refused with 13 and changes no guidance, route, number or buffer. What is proved: of every list of
+ * calls by any callers, the others answer as if the refused ones, or all that watchers sent, were not there. Whatever replays
+ * records or draws a path acts as the skipper and takes no caller: nuthkolla_compact, nuthkolla_draw_path, the desk program. */
+enum { NUTHKOLLA_SKIPPER = 0, NUTHKOLLA_DECKHAND = 1, NUTHKOLLA_WATCHER = 2 };
+
 /* ---- calls on a guidance */
 
 enum {
@@ -155,10 +177,10 @@ typedef struct nuthkolla_answer {
     float thrust;      /* 0 to 1 */
     float cross_track_m; /* of a waypoint the distance off its line, the leg or the loiter's tangent: m, right positive; may be
                             infinite or NaN; +0 where it is idle or within 1e-3 m of a loiter's centre; else 0 */
-    size_t next;       /* the place after the record; 0 where no record was read (refusals 5, 6, 7, 255; a taking back) */
+    size_t next;       /* the place after the record; 0 where no record was read (refusals 13, 5, 6, 7, 255; a taking back) */
 } nuthkolla_answer;
 
-/* Runs one call on the host's guidance. `bytes` is one record, read from its first byte; bytes behind it are
+/* Runs one call on the host's guidance, by a caller: refusal 13 first. `bytes` is one record, read from its first byte; bytes behind it are
  * not read, and `next` says where it ended.
  *   NUTHKOLLA_CALL        refusals 5, 6, 7 of the record; then 2, 3, 4 of a guide call. A prime answers without
  *                         a setpoint. A guide call answers a setpoint, a waypoint its two laws too.
@@ -172,9 +194,25 @@ typedef struct nuthkolla_answer {
  *                         integrals and demands are kept.
  *   any other number      refusal 255
  * What is proved: the answer and the whole guidance afterwards, for every input, equal the definitions that
- * docs/HOST.md names; and of every list of numbers and bytes that is run on a guidance from an accepted
+ * docs/HOST.md names; and of every list of callers, numbers and bytes that is run on a guidance from an accepted
  * NUTHKOLLA_NEW up to the next one, the owner's demand 3. */
-nuthkolla_answer nuthkolla_run(nuthkolla_guidance *guidance, uint32_t what, const uint8_t *bytes, size_t length);
+nuthkolla_answer nuthkolla_run(nuthkolla_guidance *guidance, uint32_t caller, uint32_t what, const uint8_t *bytes, size_t length);
+
+/* ---- reports of a guidance */
+
+enum {
+    NUTHKOLLA_MODE = 0,       /* the mode, which is always plane: 0, or 1 where the requested regime, copter, is unsupported */
+    NUTHKOLLA_STALL_GUARD = 1 /* 1 where the stall guard stands, else 0. It is why thrust is at its top: while it stands after an
+                                 energy step, that step's thrust equals the top of its span */
+};
+
+typedef struct nuthkolla_reported {
+    uint32_t refusal; /* 0, or 13, then 255 */
+    uint32_t value;   /* what the report says; 0 where it is refused */
+} nuthkolla_reported;
+
+/* Reads a report. The guidance is passed by value, so that the caller's is not changed. */
+nuthkolla_reported nuthkolla_report(nuthkolla_guidance guidance, uint32_t caller, uint32_t what);
 
 /* ---- records */
 
@@ -273,18 +311,21 @@ typedef struct nuthkolla_route_answer {
 } nuthkolla_route_answer;
 
 /* Loads a route's record from the place `at` on: its numbers go to the front of `numbers`, the others are kept. Refusals, in this
- * order: 5 for a map cut short; 6 for a second map with bit 31 or with no bit, 10 where there is no second map and the first is empty;
+ * order: 13; 5 for a map cut short; 6 for a second map with bit 31 or with no bit, 10 where there is no second map and the first is empty;
  * 5 for fewer bytes than the maps demand, 11, 8 for too few `numbers`. A refused loading changes none of them. */
-nuthkolla_route_loaded nuthkolla_load_route(const uint8_t *bytes, size_t length, size_t at, float *numbers, size_t count);
+nuthkolla_route_loaded nuthkolla_load_route(
+    uint32_t caller, const uint8_t *bytes, size_t length, size_t at, float *numbers, size_t count);
 
 /* One route call on the host's guidance: moves on by one point where the point is passed, then flies to the point reached.
- * Refusals: 7 for a regime above 1, 6 for bit 62 or 63 of the map, 10, 5 for fewer `numbers` than the map demands; then 2, 3, 4 of
+ * Refusals: 13; 7 for a regime above 1, 6 for bit 62 or 63 of the map, 10, 5 for fewer `numbers` than the map demands; then 2, 3, 4 of
  * the guide call. A refused call keeps guidance and number. What is proved of lists of calls is in docs/HOST.md. */
-nuthkolla_route_answer nuthkolla_run_route(nuthkolla_guidance *guidance, nuthkolla_route_call call, const float *numbers, size_t count);
+nuthkolla_route_answer nuthkolla_run_route(
+    nuthkolla_guidance *guidance, uint32_t caller, nuthkolla_route_call call, const float *numbers, size_t count);
 
-/* Writes a route's record into `out` from the place `at` on; other bytes are kept. Refusals 6, 10, 5, then 8. There is a second map only
- * where one of its bits stands. Of a route that was loaded these are the bytes that were read. */
-nuthkolla_place nuthkolla_write_route(uint8_t *out, size_t length, size_t at, uint64_t map, const float *numbers, size_t count);
+/* Writes a route's record into `out` from the place `at` on; other bytes are kept. Refusals 13, 6, 10, 5, then 8. There is a second map
+ * only where one of its bits stands. Of a route that was loaded these are the bytes that were read. */
+nuthkolla_place nuthkolla_write_route(
+    uint32_t caller, uint8_t *out, size_t length, size_t at, uint64_t map, const float *numbers, size_t count);
 
 /* ---- recordings: a configuration's record and the records of up to 4,096 calls */
 
@@ -326,14 +367,6 @@ nuthkolla_config nuthkolla_default_config(void);
 
 /* 0, or the number of the first field that fails, 1 to 35. */
 uint32_t nuthkolla_validate(nuthkolla_config config);
-
-/* The mode report of a guidance, from its `requested`: the mode is always plane; 0, or 1 where the requested
- * regime, copter, is unsupported. */
-uint32_t nuthkolla_flight_mode(uint32_t requested);
-
-/* Whether the stall guard stands, from a guidance's `tecs.underspeed`: 1 where it does, else 0. It is why thrust is at its top: while
- * it stands after an energy step, that step's thrust equals the top of its span. */
-uint32_t nuthkolla_stall_guard(uint32_t underspeed);
 
 #ifdef __cplusplus
 }

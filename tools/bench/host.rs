@@ -37,7 +37,7 @@ pub struct Answer {
 }
 
 unsafe extern "C" {
-    fn nuthkolla_run(guidance: *mut Held, what: u32, bytes: *const u8, length: usize) -> Answer;
+    fn nuthkolla_run(guidance: *mut Held, caller: u32, what: u32, bytes: *const u8, length: usize) -> Answer;
 }
 
 /// A record read in the plainest way: the map, then fields by bit.
@@ -213,7 +213,7 @@ struct Recording {
 
 fn recording(input: &[u8]) -> Recording {
     let mut ours = Held([0; 78]);
-    let made = unsafe { nuthkolla_run(&mut ours, 2, input.as_ptr(), input.len()) };
+    let made = unsafe { nuthkolla_run(&mut ours, 0, 2, input.as_ptr(), input.len()) };
     assert_eq!(made.refusal, 0, "a recording begins with a valid configuration");
     let mut config = PlaneGuidanceConfig::default();
     // the archive's guidance starts with the 33 numbers
@@ -225,7 +225,7 @@ fn recording(input: &[u8]) -> Recording {
     let mut place = made.next;
     while place < input.len() {
         let rest = &input[place..];
-        let a = unsafe { nuthkolla_run(&mut ours, 0, rest.as_ptr(), rest.len()) };
+        let a = unsafe { nuthkolla_run(&mut ours, 0, 0, rest.as_ptr(), rest.len()) };
         let b = published_run(&mut published, rest.as_ptr(), rest.len());
         assert!(same(&a, &b), "call {}: {a:?} {b:?}", whole.calls.len() + 1);
         assert!(a.next > 0, "a recording has whole records");
@@ -256,7 +256,7 @@ fn least(r: &Recording, rounds: usize) -> [f64; 2] {
         let (mut ours, mut published) = (r.ours, r.published.clone());
         let here = ns_of(|| {
             for record in &r.calls {
-                black_box(unsafe { nuthkolla_run(black_box(&mut ours), 0, record.as_ptr(), record.len()) });
+                black_box(unsafe { nuthkolla_run(black_box(&mut ours), 0, 0, record.as_ptr(), record.len()) });
             }
         });
         let there = ns_of(|| {

@@ -120,7 +120,7 @@ fn ns_of(times: usize, mut run: impl FnMut()) -> f64 {
 fn main() {
     let rounds: usize = std::env::args().nth(1).map_or(200, |word| word.parse().expect("a number of rounds"));
     let mut ours = ffi::Guidance::default();
-    let made = unsafe { ffi::nuthkolla_run(&mut ours, ffi::NEW, [0u8; 5].as_ptr(), 5) };
+    let made = unsafe { ffi::nuthkolla_run(&mut ours, 0, ffi::NEW, [0u8; 5].as_ptr(), 5) };
     assert_eq!(made.refusal, 0);
     let published = PlaneGuidance::new(PlaneGuidanceConfig::default());
     for (name, call) in calls() {
@@ -144,7 +144,7 @@ fn main() {
                 });
                 let mut guidance = ours;
                 let guide = ns_of(6000, || {
-                    black_box(unsafe { ffi::nuthkolla_run(black_box(&mut guidance), ffi::CALL, record.as_ptr(), next) });
+                    black_box(unsafe { ffi::nuthkolla_run(black_box(&mut guidance), 0, ffi::CALL, record.as_ptr(), next) });
                 });
                 if round >= rounds {
                     least = [least[0].min(first), least[1].min(second), least[2].min(guide)];

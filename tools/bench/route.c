@@ -50,16 +50,16 @@ int main(void)
     }
     static const uint8_t defaults[5];
     nuthkolla_guidance a = {0}, b = {0};
-    nuthkolla_run(&a, NUTHKOLLA_NEW, defaults, sizeof defaults);
-    nuthkolla_run(&b, NUTHKOLLA_NEW, defaults, sizeof defaults);
+    nuthkolla_run(&a, NUTHKOLLA_SKIPPER, NUTHKOLLA_NEW, defaults, sizeof defaults);
+    nuthkolla_run(&b, NUTHKOLLA_SKIPPER, NUTHKOLLA_NEW, defaults, sizeof defaults);
     unsigned differ = 0;
     for (int round = 0; round < ROUNDS; round++) {
         double start = now();
         for (int i = 0; i < CALLS; i++)
-            differ += nuthkolla_run_route(&a, calls[i % STATES], route.numbers, NUTHKOLLA_ROUTE_NUMBERS).number != 48;
+            differ += nuthkolla_run_route(&a, NUTHKOLLA_SKIPPER, calls[i % STATES], route.numbers, NUTHKOLLA_ROUTE_NUMBERS).number != 48;
         double middle = now();
         for (int i = 0; i < CALLS; i++)
-            differ += nuthkolla_run(&b, NUTHKOLLA_CALL, records[i % STATES], lengths[i % STATES]).refusal != 0;
+            differ += nuthkolla_run(&b, NUTHKOLLA_SKIPPER, NUTHKOLLA_CALL, records[i % STATES], lengths[i % STATES]).refusal != 0;
         route_ns[round] = (middle - start) / CALLS;
         guide_ns[round] = (now() - middle) / CALLS;
     }

@@ -53,10 +53,10 @@ static double now(void)
 static unsigned pass(const uint8_t *bytes, size_t length)
 {
     static nuthkolla_guidance g;
-    nuthkolla_answer a = nuthkolla_run(&g, NUTHKOLLA_NEW, bytes, length);
+    nuthkolla_answer a = nuthkolla_run(&g, NUTHKOLLA_SKIPPER, NUTHKOLLA_NEW, bytes, length);
     unsigned calls = 0;
     for (size_t at = a.next; at < length; calls++)
-        at += nuthkolla_run(&g, NUTHKOLLA_CALL, bytes + at, length - at).next;
+        at += nuthkolla_run(&g, NUTHKOLLA_SKIPPER, NUTHKOLLA_CALL, bytes + at, length - at).next;
     return calls;
 }
 

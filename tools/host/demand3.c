@@ -55,7 +55,7 @@ static int failed(size_t at, const char *what)
 static nuthkolla_answer perform(nuthkolla_guidance *g, const entry *e)
 {
     float integral = g->tecs.thrust_integral;
-    nuthkolla_answer a = nuthkolla_run(g, e->what, e->bytes, e->length);
+    nuthkolla_answer a = nuthkolla_run(g, NUTHKOLLA_SKIPPER, e->what, e->bytes, e->length);
     if (plant == TRACE && a.refusal != 0)
         g->tecs.thrust_integral += 0.125f;
     if (plant == PRIME && e->what == NUTHKOLLA_CALL && e->bytes[4] == NUTHKOLLA_PRIME)
@@ -122,7 +122,7 @@ static int underspeed_after(const entry *e, int before)
 static size_t first_run(const uint8_t *list, size_t length)
 {
     nuthkolla_guidance g = {0};
-    nuthkolla_answer made = nuthkolla_run(&g, NUTHKOLLA_NEW, list, length);
+    nuthkolla_answer made = nuthkolla_run(&g, NUTHKOLLA_SKIPPER, NUTHKOLLA_NEW, list, length);
     nuthkolla_config config = nuthkolla_read_config(list, length, 0).config, former = config;
     int underspeed = 0, kept = 0;
     size_t n = 0, place = made.next;
@@ -160,7 +160,7 @@ static size_t first_run(const uint8_t *list, size_t length)
         e->kept = kept;
         e->former = former;
         e->underspeed = underspeed = accepted(e) ? underspeed_after(e, underspeed) : underspeed;
-        e->report = nuthkolla_stall_guard(plant == GUARD && e->law == NUTHKOLLA_HOLD ? 0 : g.tecs.underspeed);
+        e->report = plant == GUARD && e->law == NUTHKOLLA_HOLD ? 0 : nuthkolla_report(g, NUTHKOLLA_WATCHER, NUTHKOLLA_STALL_GUARD).value;
     }
     return place < length ? 0 : n;
 }
@@ -169,7 +169,7 @@ static void configure(nuthkolla_guidance *g, uint32_t what, nuthkolla_config con
 {
     uint8_t record[NUTHKOLLA_CONFIG_BYTES];
     nuthkolla_place p = nuthkolla_write_config(record, sizeof record, 0, config);
-    if (nuthkolla_run(g, what, record, p.next).refusal != 0) {
+    if (nuthkolla_run(g, NUTHKOLLA_SKIPPER, what, record, p.next).refusal != 0) {
         printf("a configuration in force is refused\n");
         exit(1);
     }
@@ -205,7 +205,7 @@ static void mark(size_t n)
 static int check_struck(const uint8_t *list, size_t length, size_t n)
 {
     nuthkolla_guidance g = {0};
-    nuthkolla_run(&g, NUTHKOLLA_NEW, list, length);
+    nuthkolla_run(&g, NUTHKOLLA_SKIPPER, NUTHKOLLA_NEW, list, length);
     mark(n);
     for (size_t i = 0; i < n; i++) {
         if (entries[i].struck)

@@ -133,6 +133,14 @@ int main(void)
     AT(nuthkolla_path, reason);
     AT(nuthkolla_path, drawn);
     AT(nuthkolla_path, stopped);
+    SIZE(nuthkolla_reported);
+    AT(nuthkolla_reported, refusal);
+    AT(nuthkolla_reported, value);
+    NUMBER(NUTHKOLLA_SKIPPER);
+    NUMBER(NUTHKOLLA_DECKHAND);
+    NUMBER(NUTHKOLLA_WATCHER);
+    NUMBER(NUTHKOLLA_MODE);
+    NUMBER(NUTHKOLLA_STALL_GUARD);
     NUMBER(NUTHKOLLA_CALL);
     NUMBER(NUTHKOLLA_SET_CONFIG);
     NUMBER(NUTHKOLLA_NEW);

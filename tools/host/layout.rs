@@ -1,6 +1,6 @@
 //! The Rust wrapper's sizes, places and numbers under the header's names, as layout.c prints the header's.
 
-use nuthkolla::{ffi, PlaneGuidanceConfig, TecsConfig, Vec3, CALL_BYTES, CONFIG_BYTES, PATH_STEPS, ROUTE_BYTES, ROUTE_NUMBERS};
+use nuthkolla::{ffi, Caller, PlaneGuidanceConfig, TecsConfig, Vec3, CALL_BYTES, CONFIG_BYTES, PATH_STEPS, ROUTE_BYTES, ROUTE_NUMBERS};
 use std::mem::{offset_of, size_of, size_of_val, zeroed};
 
 macro_rules! size {
@@ -149,6 +149,14 @@ fn main() {
     at!("nuthkolla_path.reason", ffi::Path, reason);
     at!("nuthkolla_path.drawn", ffi::Path, drawn);
     at!("nuthkolla_path.stopped", ffi::Path, stopped);
+    size!("nuthkolla_reported", ffi::Reported);
+    at!("nuthkolla_reported.refusal", ffi::Reported, refusal);
+    at!("nuthkolla_reported.value", ffi::Reported, value);
+    println!("NUTHKOLLA_SKIPPER {}", Caller::Skipper.number());
+    println!("NUTHKOLLA_DECKHAND {}", Caller::Deckhand.number());
+    println!("NUTHKOLLA_WATCHER {}", Caller::Watcher.number());
+    println!("NUTHKOLLA_MODE {}", ffi::MODE);
+    println!("NUTHKOLLA_STALL_GUARD {}", ffi::STALL_GUARD);
     println!("NUTHKOLLA_CALL {}", ffi::CALL);
     println!("NUTHKOLLA_SET_CONFIG {}", ffi::SET_CONFIG);
     println!("NUTHKOLLA_NEW {}", ffi::NEW);

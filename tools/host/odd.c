@@ -42,7 +42,7 @@ static void fill_words(void *to, size_t words)
 
 static void check(const nuthkolla_answer *a)
 {
-    expect(a->refusal <= 8 || a->refusal == 14 || a->refusal == NUTHKOLLA_UNKNOWN, "refusal's number");
+    expect(a->refusal <= 8 || a->refusal == 13 || a->refusal == 14 || a->refusal == NUTHKOLLA_UNKNOWN, "refusal's number");
     expect((a->refusal == 1) == (a->field != 0), "field of refusal 1 alone");
     expect(a->field <= 35, "field's number");
     expect(a->setpoint <= 2 && a->lateral <= 3 && a->vertical <= 3, "kind and laws");
@@ -61,7 +61,7 @@ int main(int count, char **words)
     for (unsigned long n = 0; n < calls; n++) {
         uint8_t record[NUTHKOLLA_CONFIG_BYTES] = {0};
         size_t length = sizeof record;
-        uint32_t what = any() % 8 < 6 ? 0 : any() % 5;
+        uint32_t what = any() % 8 < 6 ? 0 : any() % 5, caller = any() % 4 != 0 ? any() % 2 : any() % 8 != 0 ? any() % 5 : any();
         if (any() % 16 == 0)
             fill_words(&g, sizeof g / 4);
         if (what == 0 && any() % 8 != 0) {
@@ -83,8 +83,8 @@ int main(int count, char **words)
         uint8_t *lent = malloc(length == 0 ? 1 : length);
         memcpy(lent, record, length);
         nuthkolla_guidance before = g, again = g;
-        nuthkolla_answer a = nuthkolla_run(&g, what, lent, length);
-        nuthkolla_answer b = nuthkolla_run(&again, what, lent, length);
+        nuthkolla_answer a = nuthkolla_run(&g, caller, what, lent, length);
+        nuthkolla_answer b = nuthkolla_run(&again, caller, what, lent, length);
         check(&a);
         expect(memcmp(&g, &again, sizeof g) == 0, "same guidance from same call");
         expect(memcmp(&a, &b, offsetof(nuthkolla_answer, next) - 4) == 0 && a.next == b.next, "same answer from same call");
@@ -96,7 +96,11 @@ int main(int count, char **words)
         if (what == NUTHKOLLA_CALL)
             expect(memcmp(&g.former, &before.former, sizeof g.former) == 0, "a call keeps the kept configuration");
         if (what == NUTHKOLLA_TAKE_BACK)
-            expect((a.refusal == 14) == (before.former.kept == 0), "refusal 14");
+            expect(a.refusal == 13 || (a.refusal == 14) == (before.former.kept == 0), "refusal 14");
+        expect((a.refusal == 13) == (caller > (what == NUTHKOLLA_CALL)), "refusal 13");
+        nuthkolla_reported mode = nuthkolla_report(g, caller, NUTHKOLLA_MODE), guard = nuthkolla_report(g, caller, NUTHKOLLA_STALL_GUARD);
+        expect(mode.refusal == (caller > 2 ? 13 : 0) && mode.value == (caller <= 2 && g.requested == 0), "the mode report");
+        expect(guard.refusal == mode.refusal && guard.value == (caller <= 2 && g.tecs.underspeed != 0), "the guard's report");
         *(a.refusal == 0 ? &accepted : &refused) += 1;
         free(lent);
     }

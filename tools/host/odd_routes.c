@@ -71,7 +71,7 @@ static void fly(uint64_t map, const float *numbers, size_t count)
     c.number = any() % 4 == 0 ? any() : any() % 66;
     c.regime = any() % 3;
     nuthkolla_guidance before = g;
-    nuthkolla_route_answer a = nuthkolla_run_route(&g, c, numbers, count);
+    nuthkolla_route_answer a = nuthkolla_run_route(&g, NUTHKOLLA_SKIPPER, c, numbers, count);
     uint32_t early = c.regime > 1 ? 7 : refusal_of(map, count), refusal = a.answer.refusal;
     expect(early != 0 ? refusal == early : refusal == 0 || (refusal >= 2 && refusal <= 4), "refusal of a route call");
     if (refusal != 0) {
@@ -90,7 +90,7 @@ static int write_and_read(uint64_t map, const float *numbers, size_t count)
     uint8_t *out = malloc(length + 1), *before = malloc(length + 1);
     for (size_t i = 0; i < length; i++)
         out[i] = before[i] = (uint8_t)any();
-    nuthkolla_place p = nuthkolla_write_route(out, length, at, map, numbers, count);
+    nuthkolla_place p = nuthkolla_write_route(NUTHKOLLA_SKIPPER, out, length, at, map, numbers, count);
     uint32_t early = refusal_of(map, count);
     expect(p.refusal == (early != 0 ? early : at > length || length - at < size ? 8 : 0), "refusal of the writer");
     for (size_t i = 0; i < length; i++)
@@ -104,7 +104,7 @@ static int write_and_read(uint64_t map, const float *numbers, size_t count)
         float *again = malloc(4 * room + 1), *same = malloc(4 * room + 1);
         fill(again, room);
         memcpy(same, again, 4 * room);
-        nuthkolla_route_loaded l = nuthkolla_load_route(out, p.next, at, again, room);
+        nuthkolla_route_loaded l = nuthkolla_load_route(NUTHKOLLA_SKIPPER, out, p.next, at, again, room);
         expect(p.next == at + size && l.refusal == (!finite ? 11 : room < 4 * points ? 8 : 0), "refusal of what was written");
         size_t given = l.refusal == 0 ? 16 * points : 0;
         expect(memcmp(again, numbers, given) == 0, "the numbers come back");

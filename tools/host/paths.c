@@ -79,11 +79,11 @@ static int at_call(unsigned long call, size_t steps, size_t room, size_t length)
     for (uint32_t i = 0; i < ROOM; i++)
         memcpy(&buffer[i], &i, 4);
     nuthkolla_guidance g = {0};
-    nuthkolla_answer a = nuthkolla_run(&g, NUTHKOLLA_NEW, input, length);
+    nuthkolla_answer a = nuthkolla_run(&g, NUTHKOLLA_SKIPPER, NUTHKOLLA_NEW, input, length);
     size_t place = a.next;
     for (unsigned long n = 1; a.refusal != 1 && a.next != 0 && n <= call; n++) {
         nuthkolla_guidance before = g;
-        a = nuthkolla_run(&g, NUTHKOLLA_CALL, input + place, length - place);
+        a = nuthkolla_run(&g, NUTHKOLLA_SKIPPER, NUTHKOLLA_CALL, input + place, length - place);
         if (a.next != 0 && n == call && input[place + 4] == NUTHKOLLA_WAYPOINT) {
             nuthkolla_path p = nuthkolla_draw_path(before, call_of(input + place), steps, buffer, room < ROOM ? room : ROOM);
             printf("path %u %zu %zu %u\n", p.refusal, p.drawn, p.stopped, p.reason);
@@ -106,7 +106,7 @@ int main(int count, char **words)
     }
     size_t most = count > 1 ? strtoul(words[1], 0, 10) : 600;
     nuthkolla_guidance g = {0};
-    nuthkolla_answer a = nuthkolla_run(&g, NUTHKOLLA_NEW, input, length);
+    nuthkolla_answer a = nuthkolla_run(&g, NUTHKOLLA_SKIPPER, NUTHKOLLA_NEW, input, length);
     if (a.refusal != 0)
         return 0;
     size_t place = a.next;
@@ -114,7 +114,7 @@ int main(int count, char **words)
         uint32_t what = input[place] == BACK ? NUTHKOLLA_TAKE_BACK : input[place];
         place++;
         nuthkolla_guidance before = g;
-        a = nuthkolla_run(&g, what, input + place, length - place);
+        a = nuthkolla_run(&g, NUTHKOLLA_SKIPPER, what, input + place, length - place);
         if (a.next == 0 && what != NUTHKOLLA_TAKE_BACK)
             break;
         if (what == NUTHKOLLA_CALL && input[place + 4] == NUTHKOLLA_WAYPOINT)

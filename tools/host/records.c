@@ -51,7 +51,7 @@ static void try_call(const uint8_t *bytes, size_t n, size_t from, uint8_t *buffe
     nuthkolla_guidance g = fresh;
     nuthkolla_answer a = {.refusal = 5};
     if (from <= n)
-        a = nuthkolla_run(&g, NUTHKOLLA_CALL, bytes + from, n - from);
+        a = nuthkolla_run(&g, NUTHKOLLA_SKIPPER, NUTHKOLLA_CALL, bytes + from, n - from);
     if (a.next == 0) {
         printf(" refused %u\n", a.refusal);
         return;
@@ -100,7 +100,7 @@ static int rewrite(size_t length)
     fwrite(out, 1, p.next, stdout);
     for (size_t place = r.next; place < length;) {
         nuthkolla_guidance g = fresh;
-        nuthkolla_answer a = nuthkolla_run(&g, NUTHKOLLA_CALL, input + place, length - place);
+        nuthkolla_answer a = nuthkolla_run(&g, NUTHKOLLA_SKIPPER, NUTHKOLLA_CALL, input + place, length - place);
         if (a.next == 0)
             return stopped(a.refusal);
         p = nuthkolla_write_call(out, sizeof out, 0, call_of(input + place));
@@ -113,7 +113,7 @@ static int rewrite(size_t length)
 int main(int count, char **words)
 {
     static const uint8_t no_fields[5];
-    nuthkolla_answer made = nuthkolla_run(&fresh, NUTHKOLLA_NEW, no_fields, sizeof no_fields);
+    nuthkolla_answer made = nuthkolla_run(&fresh, NUTHKOLLA_SKIPPER, NUTHKOLLA_NEW, no_fields, sizeof no_fields);
     size_t length = fread(input, 1, sizeof input, stdin);
     if (made.refusal != 0 || length == sizeof input)
         return 2;

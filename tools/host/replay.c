@@ -38,7 +38,7 @@ static int stops(uint32_t refusal) { return refusal == 5 || refusal == 6 || refu
 /* One entry; 0 where the run stops. */
 static int entry(nuthkolla_guidance *g, unsigned long number, uint32_t what, size_t length, size_t *place)
 {
-    nuthkolla_answer a = nuthkolla_run(g, what, input + *place, length - *place);
+    nuthkolla_answer a = nuthkolla_run(g, NUTHKOLLA_SKIPPER, what, input + *place, length - *place);
     if (stops(a.refusal)) {
         printf("%lu stopped %u\n", number, a.refusal);
         return 0;
@@ -59,7 +59,7 @@ static void run(size_t length)
 {
     nuthkolla_guidance g;
     memset(&g, 0xa5, sizeof g);
-    nuthkolla_answer made = nuthkolla_run(&g, NUTHKOLLA_NEW, input, length);
+    nuthkolla_answer made = nuthkolla_run(&g, NUTHKOLLA_SKIPPER, NUTHKOLLA_NEW, input, length);
     if (made.refusal != 0) {
         if (made.refusal == 1)
             printf("config refused %u\n", made.field);

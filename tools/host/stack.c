@@ -19,7 +19,7 @@ static uint32_t what;
 static size_t place, length;
 
 static void nothing(void) {}
-static void call(void) { answer = nuthkolla_run(&guidance, what, input + place, length - place); }
+static void call(void) { answer = nuthkolla_run(&guidance, NUTHKOLLA_SKIPPER, what, input + place, length - place); }
 
 static size_t used(void (*what_runs)(void))
 {

@@ -1,9 +1,9 @@
 //! Plays the wheelhouse display: it reads the records that the box sends over the cable, one configuration and then
-//! calls, works out the setpoints itself, and prints them as the desk program does.
+//! calls, works out the setpoints itself, and prints them as the desk program does. It replays records, and so acts as the skipper.
 //!
 //!     box LINES | display
 
-use nuthkolla::{Answer, LateralLaw, PlaneGuidance, Refusal, Setpoint, VerticalLaw};
+use nuthkolla::{Answer, Caller, LateralLaw, PlaneGuidance, Refusal, Setpoint, VerticalLaw};
 use std::io::{self, Read, Write};
 
 /// A number's bits, any NaN as 7fc00000.
@@ -60,7 +60,7 @@ fn main() -> Result<(), Box<dyn std::error::Error>> {
         let mut place = 0;
         // The configuration comes first; 5 says that it has not arrived whole.
         if guidance.is_none() {
-            match PlaneGuidance::from_record(&held) {
+            match PlaneGuidance::from_record(Caller::Skipper, &held) {
                 Err(Refusal::Short) if count != 0 => continue,
                 made => guidance = Some(made?),
             }
@@ -70,7 +70,7 @@ fn main() -> Result<(), Box<dyn std::error::Error>> {
         while size(&held[place..]).is_some_and(|size| size <= held.len() - place) {
             number += 1;
             let end = place + size(&held[place..]).expect("as above");
-            match guidance.call_record(&held[place..end]) {
+            match guidance.call_record(Caller::Skipper, &held[place..end]) {
                 Ok(answer) => writeln!(out, "{number} {}", line(&answer))?,
                 Err(refusal @ (Refusal::Short | Refusal::Map | Refusal::Kind)) => return Err(refusal.into()),
                 Err(refusal) => writeln!(out, "{number} {refusal}")?,

@@ -134,23 +134,40 @@ pub struct Path {
     pub stopped: usize,
 }
 
+#[repr(C)]
+#[derive(Clone, Copy, Debug)]
+pub struct Reported {
+    pub refusal: u32,
+    pub value: u32,
+}
+
+pub const MODE: u32 = 0;
+pub const STALL_GUARD: u32 = 1;
+
 pub const CALL: u32 = 0;
 pub const SET_CONFIG: u32 = 1;
 pub const NEW: u32 = 2;
 pub const TAKE_BACK: u32 = 3;
 
 extern "C" {
-    pub fn nuthkolla_run(guidance: *mut Guidance, what: u32, bytes: *const u8, length: usize) -> Answer;
+    pub fn nuthkolla_run(guidance: *mut Guidance, caller: u32, what: u32, bytes: *const u8, length: usize) -> Answer;
+    pub fn nuthkolla_report(guidance: Guidance, caller: u32, what: u32) -> Reported;
     pub fn nuthkolla_write_call(out: *mut u8, length: usize, at: usize, call: Call) -> Place;
     pub fn nuthkolla_write_config(out: *mut u8, length: usize, at: usize, config: crate::PlaneGuidanceConfig) -> Place;
     pub fn nuthkolla_read_config(bytes: *const u8, length: usize, at: usize) -> ConfigRead;
-    pub fn nuthkolla_load_route(bytes: *const u8, length: usize, at: usize, numbers: *mut f32, count: usize) -> RouteLoaded;
-    pub fn nuthkolla_run_route(guidance: *mut Guidance, call: RouteCall, numbers: *const f32, count: usize) -> RouteAnswer;
-    pub fn nuthkolla_write_route(out: *mut u8, length: usize, at: usize, map: u64, numbers: *const f32, count: usize) -> Place;
+    pub fn nuthkolla_load_route(caller: u32, bytes: *const u8, length: usize, at: usize, numbers: *mut f32, count: usize) -> RouteLoaded;
+    pub fn nuthkolla_run_route(guidance: *mut Guidance, caller: u32, call: RouteCall, numbers: *const f32, count: usize) -> RouteAnswer;
+    pub fn nuthkolla_write_route(
+        caller: u32,
+        out: *mut u8,
+        length: usize,
+        at: usize,
+        map: u64,
+        numbers: *const f32,
+        count: usize,
+    ) -> Place;
     pub fn nuthkolla_compact(bytes: *mut u8, length: usize) -> Compaction;
     pub fn nuthkolla_draw_path(guidance: Guidance, call: Call, steps: usize, out: *mut f32, length: usize) -> Path;
     pub fn nuthkolla_default_config() -> crate::PlaneGuidanceConfig;
     pub fn nuthkolla_validate(config: crate::PlaneGuidanceConfig) -> u32;
-    pub fn nuthkolla_flight_mode(requested: u32) -> u32;
-    pub fn nuthkolla_stall_guard(underspeed: u32) -> u32;
 }

@@ -2,20 +2,29 @@
 //!
 //! [`PlaneGuidance`] stands where stable-flight's stood. What differs for code that moves over:
 //! `new` and `guide` give a [`Result`], since what panicked or went wrong there is refused here, and
-//! a refused call changes nothing; [`VehicleState`] has only what the guidance reads.
+//! a refused call changes nothing; [`VehicleState`] has only what the guidance reads; every call on a
+//! guidance or its route names its [`Caller`].
 //!
 //! ```
-//! use nuthkolla::{AttitudeCommand, ControlInput, FlightRegime, PlaneGuidance, PlaneGuidanceConfig, Refusal, Setpoint, VehicleState};
+//! use nuthkolla::{
+//!     AttitudeCommand, Caller, ControlInput, FlightRegime, PlaneGuidance, PlaneGuidanceConfig, Refusal, Setpoint, VehicleState,
+//! };
 //!
-//! let mut guidance = PlaneGuidance::new(PlaneGuidanceConfig::default())?;
+//! let mut guidance = PlaneGuidance::new(Caller::Skipper, PlaneGuidanceConfig::default())?;
 //! let full_right = ControlInput::Attitude(AttitudeCommand { throttle: 0.7, roll: 1.0, ..Default::default() });
 //! let state = VehicleState::default();
-//! let Setpoint::Plane(setpoint) = guidance.guide(0.01, FlightRegime::Plane, &full_right, &state)? else {
+//! let Setpoint::Plane(setpoint) = guidance.guide(Caller::Deckhand, 0.01, FlightRegime::Plane, &full_right, &state)? else {
 //!     unreachable!("sticks give a plane attitude");
 //! };
 //! assert_eq!(setpoint.roll_rad, 45f32.to_radians());
 //! assert_eq!(setpoint.thrust, 0.7);
-//! assert_eq!(guidance.guide(-1.0, FlightRegime::Plane, &full_right, &state), Err(Refusal::TimeStep));
+//! assert_eq!(guidance.guide(Caller::Deckhand, -1.0, FlightRegime::Plane, &full_right, &state), Err(Refusal::TimeStep));
+//! // 13 comes before 2, and a watcher moves nothing
+//! assert_eq!(guidance.guide(Caller::Watcher, -1.0, FlightRegime::Plane, &full_right, &state), Err(Refusal::Right));
+//! assert_eq!(guidance.prime(Caller::Watcher, &state), Err(Refusal::Right));
+//! assert_eq!(guidance.set_config(Caller::Deckhand, PlaneGuidanceConfig::default()), Err(Refusal::Right));
+//! assert_eq!(guidance.flight_mode(Caller::Watcher)?.refusal, None);
+//! assert!(!guidance.stall_guard(Caller::Watcher)?);
 //! # Ok::<(), Refusal>(())
 //! ```
 
@@ -64,15 +73,15 @@ pub struct PlaneGuidance {
 }
 
 impl PlaneGuidance {
-    /// Guidance with `config`.
+    /// Guidance with `config`. Of each call of a guidance or a route: refusal 13 comes first.
     ///
     /// # Errors
     ///
     /// Refusal 1 with the first field that fails.
-    pub fn new(config: PlaneGuidanceConfig) -> Result<Self, Refusal> {
+    pub fn new(caller: Caller, config: PlaneGuidanceConfig) -> Result<Self, Refusal> {
         let mut record = [0; CONFIG_BYTES];
         let next = write_config(&mut record, 0, &config)?;
-        Self::from_record(&record[..next])
+        Self::from_record(caller, &record[..next])
     }
 
     /// Guidance with the configuration of a record.
@@ -80,9 +89,9 @@ impl PlaneGuidance {
     /// # Errors
     ///
     /// Refusals 5 and 6 of the record, then 1.
-    pub fn from_record(record: &[u8]) -> Result<Self, Refusal> {
+    pub fn from_record(caller: Caller, record: &[u8]) -> Result<Self, Refusal> {
         let mut guidance = PlaneGuidance { held: ffi::Guidance::default() };
-        guidance.run(ffi::NEW, record)?;
+        guidance.run(caller, ffi::NEW, record)?;
         Ok(guidance)
     }
 
@@ -91,8 +100,15 @@ impl PlaneGuidance {
     /// # Errors
     ///
     /// Refusals 2 and 4.
-    pub fn guide(&mut self, dt: f32, regime: FlightRegime, input: &ControlInput, state: &VehicleState) -> Result<Setpoint, Refusal> {
-        self.guide_capped(dt, regime, input, state, None)
+    pub fn guide(
+        &mut self,
+        caller: Caller,
+        dt: f32,
+        regime: FlightRegime,
+        input: &ControlInput,
+        state: &VehicleState,
+    ) -> Result<Setpoint, Refusal> {
+        self.guide_capped(caller, dt, regime, input, state, None)
     }
 
     /// The setpoint for a command, with a waypoint's pitch held within `pitch_cap_rad` either way.
@@ -102,6 +118,7 @@ impl PlaneGuidance {
     /// Refusals 2, 3 and 4.
     pub fn guide_capped(
         &mut self,
+        caller: Caller,
         dt: f32,
         regime: FlightRegime,
         input: &ControlInput,
@@ -109,16 +126,16 @@ impl PlaneGuidance {
         pitch_cap_rad: Option<f32>,
     ) -> Result<Setpoint, Refusal> {
         let call = Call::Guide { dt, regime, input: *input, state: *state, pitch_cap_rad };
-        let answer = self.call(&call)?;
+        let answer = self.call(caller, &call)?;
         Ok(answer.setpoint.expect("an accepted guide call answers a setpoint"))
     }
 
     /// Draws the turn to come: the path of a waypoint call, of `steps` steps, as north, east and height into `out`. The guidance
-    /// is not changed.
+    /// is not changed. Whoever draws acts as the skipper.
     ///
     /// ```
     /// # use nuthkolla::*;
-    /// let guidance = PlaneGuidance::new(PlaneGuidanceConfig::default())?;
+    /// let guidance = PlaneGuidance::new(Caller::Skipper, PlaneGuidanceConfig::default())?;
     /// let command = WaypointCommand { velocity_mps: Some(Vec2::new(16.0, 0.0)), ..Default::default() };
     /// let state = VehicleState { velocity_mps: Vec3::new(0.0, 16.0, 0.0), ..Default::default() };
     /// let mut points = [0.0; 3 * 20];
@@ -152,8 +169,12 @@ impl PlaneGuidance {
     }
 
     /// Clears the navigation loops: integrals, demands, and underspeed.
-    pub fn prime(&mut self, _state: &VehicleState) {
-        self.call(&Call::Prime).expect("a prime is never refused");
+    ///
+    /// # Errors
+    ///
+    /// Refusal 13 alone.
+    pub fn prime(&mut self, caller: Caller, _state: &VehicleState) -> Result<(), Refusal> {
+        self.call(caller, &Call::Prime).map(|_| ())
     }
 
     /// Any call; a waypoint's answer names its laws too.
@@ -161,10 +182,10 @@ impl PlaneGuidance {
     /// # Errors
     ///
     /// Refusals 2, 3 and 4.
-    pub fn call(&mut self, call: &Call) -> Result<Answer, Refusal> {
+    pub fn call(&mut self, caller: Caller, call: &Call) -> Result<Answer, Refusal> {
         let mut record = [0; CALL_BYTES];
         let next = write_call(&mut record, 0, call)?;
-        self.call_record(&record[..next])
+        self.call_record(caller, &record[..next])
     }
 
     /// The call that a record carries; bytes behind the record are not read.
@@ -172,8 +193,8 @@ impl PlaneGuidance {
     /// # Errors
     ///
     /// Refusals 5, 6 and 7 of the record, then 2, 3 and 4.
-    pub fn call_record(&mut self, record: &[u8]) -> Result<Answer, Refusal> {
-        let answer = self.run(ffi::CALL, record)?;
+    pub fn call_record(&mut self, caller: Caller, record: &[u8]) -> Result<Answer, Refusal> {
+        let answer = self.run(caller, ffi::CALL, record)?;
         let laws = laws_of(&answer);
         let cross_track_m = laws.map(|_| answer.cross_track_m);
         Ok(Answer { setpoint: setpoint_of(&answer), laws, cross_track_m, next: answer.next })
@@ -183,15 +204,11 @@ impl PlaneGuidance {
     ///
     /// # Errors
     ///
-    /// The first field that fails; the configuration then stays as it was.
-    pub fn set_config(&mut self, config: PlaneGuidanceConfig) -> Result<(), InvalidConfig> {
+    /// Refusal 1 with the first field that fails; the configuration then stays as it was.
+    pub fn set_config(&mut self, caller: Caller, config: PlaneGuidanceConfig) -> Result<(), Refusal> {
         let mut record = [0; CONFIG_BYTES];
-        let next = write_config(&mut record, 0, &config).expect("the buffer is long enough");
-        match self.set_config_record(&record[..next]) {
-            Ok(_) => Ok(()),
-            Err(Refusal::Config(field)) => Err(field),
-            Err(other) => unreachable!("the writer's record is read back: {other}"),
-        }
+        let next = write_config(&mut record, 0, &config)?;
+        self.set_config_record(caller, &record[..next]).map(|_| ())
     }
 
     /// Sets the configuration of a record, and gives the place after it.
@@ -199,29 +216,31 @@ impl PlaneGuidance {
     /// # Errors
     ///
     /// Refusals 5 and 6 of the record, then 1.
-    pub fn set_config_record(&mut self, record: &[u8]) -> Result<usize, Refusal> {
-        Ok(self.run(ffi::SET_CONFIG, record)?.next)
+    pub fn set_config_record(&mut self, caller: Caller, record: &[u8]) -> Result<usize, Refusal> {
+        Ok(self.run(caller, ffi::SET_CONFIG, record)?.next)
     }
 
     /// Takes the last accepted change of the configuration back: the one before it is in force again and is forgotten; integrals and
     /// demands stay.
     ///
     /// ```
-    /// use nuthkolla::{PlaneGuidance, PlaneGuidanceConfig, Refusal};
+    /// use nuthkolla::{Caller, PlaneGuidance, PlaneGuidanceConfig, Refusal};
     ///
-    /// let mut guidance = PlaneGuidance::new(PlaneGuidanceConfig::default())?;
-    /// guidance.set_config(PlaneGuidanceConfig { max_bank_rad: 1.0, ..Default::default() }).expect("1 is below a quarter turn");
-    /// guidance.take_back()?;
+    /// let skipper = Caller::Skipper;
+    /// let mut guidance = PlaneGuidance::new(skipper, PlaneGuidanceConfig::default())?;
+    /// guidance.set_config(skipper, PlaneGuidanceConfig { max_bank_rad: 1.0, ..Default::default() })?;
+    /// assert_eq!(guidance.take_back(Caller::Deckhand), Err(Refusal::Right));
+    /// guidance.take_back(skipper)?;
     /// assert_eq!(guidance.config(), &PlaneGuidanceConfig::default());
-    /// assert_eq!(guidance.take_back(), Err(Refusal::NothingKept));
+    /// assert_eq!(guidance.take_back(skipper), Err(Refusal::NothingKept));
     /// # Ok::<(), Refusal>(())
     /// ```
     ///
     /// # Errors
     ///
     /// Refusal 14.
-    pub fn take_back(&mut self) -> Result<(), Refusal> {
-        self.run(ffi::TAKE_BACK, &[]).map(|_| ())
+    pub fn take_back(&mut self, caller: Caller) -> Result<(), Refusal> {
+        self.run(caller, ffi::TAKE_BACK, &[]).map(|_| ())
     }
 
     pub fn config(&self) -> &PlaneGuidanceConfig {
@@ -229,16 +248,29 @@ impl PlaneGuidance {
     }
 
     /// Always plane; a `Copter` request is refused as unsupported.
-    pub fn flight_mode(&self) -> Option<FlightModeReport> {
-        // Safety: it takes a number.
-        let refusal = unsafe { ffi::nuthkolla_flight_mode(self.held.requested) };
-        Some(FlightModeReport { mode: FlightMode::Plane, refusal: (refusal != 0).then_some(ModeRefusal::Unsupported) })
+    ///
+    /// # Errors
+    ///
+    /// None: every caller may read it.
+    pub fn flight_mode(&self, caller: Caller) -> Result<FlightModeReport, Refusal> {
+        let unsupported = self.report(caller, ffi::MODE)? != 0;
+        Ok(FlightModeReport { mode: FlightMode::Plane, refusal: unsupported.then_some(ModeRefusal::Unsupported) })
     }
 
     /// Whether the stall guard stands: then it is why an energy step's thrust is at its top.
-    pub fn stall_guard(&self) -> bool {
-        // Safety: it takes a number.
-        unsafe { ffi::nuthkolla_stall_guard(self.held.tecs.underspeed) != 0 }
+    ///
+    /// # Errors
+    ///
+    /// None: every caller may read it.
+    pub fn stall_guard(&self, caller: Caller) -> Result<bool, Refusal> {
+        Ok(self.report(caller, ffi::STALL_GUARD)? != 0)
+    }
+
+    fn report(&self, caller: Caller, what: u32) -> Result<u32, Refusal> {
+        // Safety: it takes values alone.
+        let report = unsafe { ffi::nuthkolla_report(self.held, caller.number(), what) };
+        Refusal::of(report.refusal)?;
+        Ok(report.value)
     }
 
     /// The guidance as the library holds it.
@@ -246,9 +278,9 @@ impl PlaneGuidance {
         &self.held
     }
 
-    fn run(&mut self, what: u32, bytes: &[u8]) -> Result<ffi::Answer, Refusal> {
+    fn run(&mut self, caller: Caller, what: u32, bytes: &[u8]) -> Result<ffi::Answer, Refusal> {
         // Safety: both are borrowed for the call, the guidance for itself alone.
-        let answer = unsafe { ffi::nuthkolla_run(&mut self.held, what, bytes.as_ptr(), bytes.len()) };
+        let answer = unsafe { ffi::nuthkolla_run(&mut self.held, caller.number(), what, bytes.as_ptr(), bytes.len()) };
         if answer.refusal == 1 {
             let (config, _) = read_config(bytes, 0)?;
             return Err(Refusal::Config(InvalidConfig::of(answer.field, &config)));
@@ -261,30 +293,33 @@ impl PlaneGuidance {
 /// A route: up to 62 points, and the number of the point that is flown to.
 ///
 /// ```
-/// use nuthkolla::{FlightRegime, PlaneGuidance, PlaneGuidanceConfig, Refusal, Route, VehicleState};
+/// use nuthkolla::{Caller, FlightRegime, PlaneGuidance, PlaneGuidanceConfig, Refusal, Route, VehicleState};
 ///
 /// // bits 0 and 2: two points, 100 m apart, each north, east, altitude, cruise speed
 /// let mut record = vec![5, 0, 0, 0];
 /// for number in [0f32, 0.0, 80.0, 17.0, 100.0, 0.0, 80.0, 17.0] {
 ///     record.extend(number.to_le_bytes());
 /// }
-/// let (mut route, next) = Route::load(&record, 0)?;
+/// let (skipper, deckhand) = (Caller::Skipper, Caller::Deckhand);
+/// let (mut route, next) = Route::load(skipper, &record, 0)?;
 /// assert_eq!((next, route.number(), route.points().count()), (36, 1, 2));
-/// let mut guidance = PlaneGuidance::new(PlaneGuidanceConfig::default())?;
+/// let mut guidance = PlaneGuidance::new(skipper, PlaneGuidanceConfig::default())?;
 /// let at_first = VehicleState::default();
-/// guidance.guide_route(&mut route, 0.1, FlightRegime::Plane, &at_first, None)?;
+/// guidance.guide_route(deckhand, &mut route, 0.1, FlightRegime::Plane, &at_first, None)?;
 /// assert_eq!(route.number(), 2);
-/// assert_eq!(guidance.guide_route(&mut route, -1.0, FlightRegime::Plane, &at_first, None), Err(Refusal::TimeStep));
+/// assert_eq!(guidance.guide_route(deckhand, &mut route, -1.0, FlightRegime::Plane, &at_first, None), Err(Refusal::TimeStep));
 /// let mut again = [0; 36];
-/// route.write(&mut again, 0)?;
+/// assert_eq!(route.write(deckhand, &mut again, 0), Err(Refusal::Right));
+/// route.write(skipper, &mut again, 0)?;
 /// assert_eq!(again[..], record[..]);
-/// assert_eq!(Route::load(&[0, 0, 0, 0], 0), Err(Refusal::NoPoint));
+/// assert_eq!(Route::load(skipper, &[0, 0, 0, 0], 0), Err(Refusal::NoPoint));
+/// assert_eq!(Route::load(deckhand, &[0, 0, 0, 0], 0), Err(Refusal::Right));
 ///
 /// // bit 31 of the first map: a second follows, here with bit 0
 /// let long = [&[1, 0, 0, 128, 1, 0, 0, 0], &record[4..]].concat();
-/// let (route, next) = Route::load(&long, 0)?;
+/// let (route, next) = Route::load(skipper, &long, 0)?;
 /// assert_eq!((next, route.map(), route.points().count()), (40, 1 | 1 << 31, 2));
-/// assert_eq!(Route::load(&[1, 0, 0, 128, 0, 0, 0, 0], 0), Err(Refusal::Map));
+/// assert_eq!(Route::load(skipper, &[1, 0, 0, 128, 0, 0, 0, 0], 0), Err(Refusal::Map));
 /// # Ok::<(), Refusal>(())
 /// ```
 #[derive(Clone, Debug, PartialEq)]
@@ -300,11 +335,12 @@ impl Route {
     /// # Errors
     ///
     /// Refusals 5, 6, 10 and 11.
-    pub fn load(record: &[u8], at: usize) -> Result<(Self, usize), Refusal> {
+    pub fn load(caller: Caller, record: &[u8], at: usize) -> Result<(Self, usize), Refusal> {
         let mut route = Route { map: 0, number: 0, numbers: [0.0; ROUTE_NUMBERS] };
         let numbers = &mut route.numbers;
+        let caller = caller.number();
         // Safety: both are borrowed for the call.
-        let loaded = unsafe { ffi::nuthkolla_load_route(record.as_ptr(), record.len(), at, numbers.as_mut_ptr(), numbers.len()) };
+        let loaded = unsafe { ffi::nuthkolla_load_route(caller, record.as_ptr(), record.len(), at, numbers.as_mut_ptr(), numbers.len()) };
         Refusal::of(loaded.refusal)?;
         route.map = loaded.map;
         route.number = loaded.number;
@@ -331,10 +367,11 @@ impl Route {
     /// # Errors
     ///
     /// Refusal 8.
-    pub fn write(&self, out: &mut [u8], at: usize) -> Result<usize, Refusal> {
+    pub fn write(&self, caller: Caller, out: &mut [u8], at: usize) -> Result<usize, Refusal> {
         let numbers = &self.numbers;
+        let (caller, map) = (caller.number(), self.map);
         // Safety: both are borrowed for the call.
-        let place = unsafe { ffi::nuthkolla_write_route(out.as_mut_ptr(), out.len(), at, self.map, numbers.as_ptr(), numbers.len()) };
+        let place = unsafe { ffi::nuthkolla_write_route(caller, out.as_mut_ptr(), out.len(), at, map, numbers.as_ptr(), numbers.len()) };
         Refusal::of(place.refusal)?;
         Ok(place.next)
     }
@@ -348,6 +385,7 @@ impl PlaneGuidance {
     /// Refusals 2, 3 and 4; guidance and route then stay as they were.
     pub fn guide_route(
         &mut self,
+        caller: Caller,
         route: &mut Route,
         dt: f32,
         regime: FlightRegime,
@@ -370,8 +408,9 @@ impl PlaneGuidance {
             has_cap: pitch_cap_rad.is_some() as u32,
             pitch_cap_rad: pitch_cap_rad.unwrap_or(0.0),
         };
+        let (caller, numbers) = (caller.number(), &route.numbers);
         // Safety: both are borrowed for the call, the guidance for itself alone.
-        let flown = unsafe { ffi::nuthkolla_run_route(&mut self.held, call, route.numbers.as_ptr(), route.numbers.len()) };
+        let flown = unsafe { ffi::nuthkolla_run_route(&mut self.held, caller, call, numbers.as_ptr(), numbers.len()) };
         Refusal::of(flown.answer.refusal)?;
         route.number = flown.number;
         let cross_track_m = Some(flown.answer.cross_track_m);

@@ -151,7 +151,7 @@ pub struct Crossed {
 /// ```
 /// let mut config = nuthkolla::PlaneGuidanceConfig::default();
 /// (config.tecs.min_airspeed_mps, config.tecs.max_airspeed_mps) = (25.0, 10.0);
-/// let refused = nuthkolla::PlaneGuidance::new(config).unwrap_err();
+/// let refused = nuthkolla::PlaneGuidance::new(nuthkolla::Caller::Skipper, config).unwrap_err();
 /// assert_eq!(refused.to_string(), "refused 1: field 34: tecs.min_airspeed_mps 25 is above tecs.max_airspeed_mps 10");
 /// ```
 #[derive(Clone, Copy, Debug, PartialEq)]
@@ -358,6 +358,36 @@ pub struct Answer {
     pub next: usize,
 }
 
+/// Who makes a call on a guidance or its route.
+///
+/// | | Skipper | Deckhand | Watcher |
+/// |---|---|---|---|
+/// | a new guidance | yes | | |
+/// | guide, prime | yes | yes | |
+/// | set or take back a configuration | yes | | |
+/// | load or write a route | yes | | |
+/// | guide along a route | yes | yes | |
+/// | the mode report, the stall guard's | yes | yes | yes |
+///
+/// A call without the right is refused with 13 before anything else is looked at, and changes nothing.
+#[derive(Clone, Copy, Debug, PartialEq, Eq)]
+pub enum Caller {
+    Skipper,
+    Deckhand,
+    Watcher,
+}
+
+impl Caller {
+    /// The caller's number.
+    pub fn number(self) -> u32 {
+        match self {
+            Caller::Skipper => 0,
+            Caller::Deckhand => 1,
+            Caller::Watcher => 2,
+        }
+    }
+}
+
 /// Why a call was refused. A refused call changes nothing.
 #[derive(Clone, Copy, Debug, PartialEq)]
 pub enum Refusal {
@@ -385,6 +415,8 @@ pub enum Refusal {
     Calls,
     /// 12: a path's step count is 0 or above 600.
     Steps,
+    /// 13: the caller lacks the right.
+    Right,
     /// 14: no change is left to take back.
     NothingKept,
 }
@@ -405,6 +437,7 @@ impl Refusal {
             Refusal::PointNotFinite => 11,
             Refusal::Calls => 9,
             Refusal::Steps => 12,
+            Refusal::Right => 13,
             Refusal::NothingKept => 14,
         }
     }
@@ -423,6 +456,7 @@ impl Refusal {
             11 => Refusal::PointNotFinite,
             9 => Refusal::Calls,
             12 => Refusal::Steps,
+            13 => Refusal::Right,
             14 => Refusal::NothingKept,
             _ => Refusal::Room,
         })

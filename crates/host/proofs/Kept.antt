@@ -1,6 +1,7 @@
--- A guide or prime call keeps the configuration in force and the kept one, so that they need not be put back.
+-- A guide or prime call keeps the configuration in force and the kept one, whoever sends it, so that they need not be put back.
 -- Assumes nothing.
 use mathlib.Core.Path.{_≡_, refl}
+use mathlib.Core.Bool.{Bool, true, false, cond}
 use mathlib.Core.List.{List}
 use Prim.Native.Nat.{ℕ}
 use Rattle.guidance.specs.Plane.{cleared, primed}
@@ -13,7 +14,8 @@ use Rattle.records.specs.declared.call.ReadCall.{ReadCall}
 use Rattle.records.specs.declared.call.ReadCall.the-variants as read
 use Rattle.calls.specs.Calls.{callOf}
 use Rattle.host_answers.proofs.Kept.{guided-keeps}
-use Rattle.host.specs.Run.{ofCall, performed, runCall, run}
+use Rattle.rights.specs.Rights.{may}
+use Rattle.host.specs.Run.{ofCall, unchanged, performed, runCall, run, deedOf, runBy}
 
 call-keeps : (g : PlaneGuidance) (k : Call) → settingsOf (perform g (callOf k) .next) ≡ settingsOf g
 unfolding perform primed cleared
@@ -30,6 +32,14 @@ unfolding performed
 read-keeps g (read.Refused n) = refl
 read-keeps g (read.Read k next) = call-keeps g k
 
-pub run-keeps : (g : PlaneGuidance) (bytes : List ℕ) → settingsOf (run g 0 bytes .guidance) ≡ settingsOf g
+run-keeps : (g : PlaneGuidance) (bytes : List ℕ) → settingsOf (run g 0 bytes .guidance) ≡ settingsOf g
 unfolding run runCall
 run-keeps g bytes = read-keeps g (readCall bytes 0)
+
+pub run-by-keeps : (g : PlaneGuidance) (caller : ℕ) (bytes : List ℕ) → settingsOf (runBy g caller 0 bytes .guidance) ≡ settingsOf g
+unfolding runBy
+run-by-keeps g caller bytes = go (may caller (deedOf 0)) _
+  where
+    go : (b : Bool) (n : ℕ) → settingsOf (cond b (run g 0 bytes) (unchanged g n 0 0) .guidance) ≡ settingsOf g
+    go true n = run-keeps g bytes
+    go false n = refl

@@ -1,6 +1,6 @@
 -- The calls on a guidance that a host holds, by the number of what is wanted and a record's bytes. Definitions only.
 use Prim.Native.Nat.{ℕ}
-use mathlib.Core.Bool.{cond}
+use mathlib.Core.Bool.{Bool, cond}
 use mathlib.Core.List.{List}
 use lib.Dec.{eqb}
 use Rattle.guidance.specs.Plane.{created}
@@ -16,6 +16,9 @@ use Rattle.records.specs.declared.config.ReadConfig.{ReadConfig}
 use Rattle.records.specs.declared.config.ReadConfig.the-variants as config
 use Rattle.calls.specs.Calls.{callOf}
 use Rattle.host_answers.specs.Answer.{bare, ofReply}
+use Rattle.rights.specs.Rights.{may}
+use Rattle.rights.specs.declared.Deed.{Deed}
+use Rattle.rights.specs.declared.Deed.the-variants as deed
 use Rattle.host.specs.declared.run.Ran.{Ran}
 
 -- a refusal, or another call that leaves the guidance as it was
@@ -66,3 +69,21 @@ run g what bytes =
     (cond (eqb what 2) (runNew g bytes)
     (cond (eqb what 3) (runBack g)
     (unchanged g 255 0 0))))
+
+-- ---- by a caller
+
+-- the row of the table of rights: a call record is a guide or a prime, whose rows are alike
+unfoldable pub deedOf : ℕ → Deed
+deedOf what =
+    cond (eqb what 0) deed.Guide
+    (cond (eqb what 1) deed.SetConfig
+    (cond (eqb what 2) deed.New
+    (cond (eqb what 3) deed.TakeBack
+    deed.Other)))
+
+abbrev pub mayRun : ℕ → ℕ → Bool
+mayRun caller what = may caller (deedOf what)
+
+-- "13: the caller lacks the right, before every other check", of the record's bytes too
+unfoldable pub runBy : PlaneGuidance → ℕ → ℕ → List ℕ → Ran
+runBy g caller what bytes = cond (mayRun caller what) (run g what bytes) (unchanged g 13 0 0)

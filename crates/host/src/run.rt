@@ -1,4 +1,4 @@
-// The one function by reference: the host's guidance is copied out, `run` does the work by value, and what it may have
+// The one function by reference: the host's guidance is copied out, `run_by` does the work by value, and what it may have
 // changed is put back.
 use calls::perform;
 use guidance::plane::Created;
@@ -11,8 +11,11 @@ use records::call::ReadCall;
 use records::call::read_call;
 use records::config::ReadConfig;
 use records::config::read_config;
+use rights::Deed;
+use rights::may;
 ghost use mathlib.Core.Path.{_≡_};
 ghost use Rattle.host.specs.Run as spec;
+ghost use Rattle.host.specs.code.Dispatch as code;
 
 // The guidance after a call, and the call's answer.
 pub struct Ran {
@@ -102,8 +105,9 @@ fn run_back(g: PlaneGuidance) -> Ran
     }
 }
 
-pub fn run(g: PlaneGuidance, what: u32, bytes: &[u8]) -> Ran
-    ensures { λ r. ⌜ r ≡ spec.run g what (now (bytes .entry)) ⌝ }
+// A number that no call has is refused with `unknown`.
+fn run_or(g: PlaneGuidance, what: u32, unknown: u32, bytes: &[u8]) -> Ran
+    ensures { λ r. ⌜ r ≡ code.runOr g what unknown (now (bytes .entry)) ⌝ }
 {
     if what == 0 {
         return run_call(g, bytes);
@@ -119,17 +123,63 @@ pub fn run(g: PlaneGuidance, what: u32, bytes: &[u8]) -> Ran
     }
     Ran {
         guidance: g,
-        answer: bare(255, 0, 0),
+        answer: bare(unknown, 0, 0),
     }
+}
+
+// A call record is a guide or a prime, which the same callers may do: the right is judged before a byte is read.
+fn may_run(caller: u32, what: u32) -> bool
+    ensures { λ r. ⌜ r ≡ spec.mayRun caller what ⌝ }
+{
+    if what == 0 {
+        return may(caller, Deed::Guide);
+    }
+    if what == 1 {
+        return may(caller, Deed::SetConfig);
+    }
+    if what == 2 {
+        return may(caller, Deed::New);
+    }
+    if what == 3 {
+        return may(caller, Deed::TakeBack);
+    }
+    may(caller, Deed::Other)
+}
+
+fn number_for(right: bool, what: u32) -> u32
+    ensures { λ r. ⌜ r ≡ code.numberFor right what ⌝ }
+{
+    if right { what } else { 4 }
+}
+
+fn refusal_for(right: bool) -> u32
+    ensures { λ r. ⌜ r ≡ code.refusalFor right ⌝ }
+{
+    if right { 255 } else { 13 }
+}
+
+// Number 13 comes first: without the right a call is one that no number has, but for its refusal. So one place refuses, which is faster.
+pub fn run_by(g: PlaneGuidance, caller: u32, what: u32, bytes: &[u8]) -> Ran
+    ensures { λ r. ⌜ r ≡ spec.runBy g caller what (now (bytes .entry)) ⌝ }
+{
+    let right = may_run(caller, what);
+    let number = number_for(right, what);
+    let unknown = refusal_for(right);
+    run_or(g, number, unknown, bytes)
 }
 
 // A call changes no configuration, neither the one in force nor the kept one: they are put back only where they may have changed.
 #[no_mangle]
-pub extern "C" fn nuthkolla_run(guidance: &mut PlaneGuidance, what: u32, bytes: &[u8]) -> RunAnswer
-    ensures { λ r. ⌜ (now (guidance .exit) ≡ spec.run (now (guidance .entry)) what (now (bytes .entry)) .guidance) × (r ≡ spec.run (now (guidance .entry)) what (now (bytes .entry)) .answer) ⌝ }
+pub extern "C" fn nuthkolla_run(
+    guidance: &mut PlaneGuidance,
+    caller: u32,
+    what: u32,
+    bytes: &[u8],
+) -> RunAnswer
+    ensures { λ r. ⌜ (now (guidance .exit) ≡ spec.runBy (now (guidance .entry)) caller what (now (bytes .entry)) .guidance) × (r ≡ spec.runBy (now (guidance .entry)) caller what (now (bytes .entry)) .answer) ⌝ }
 {
     let g = *guidance;
-    let r = run(g, what, bytes);
+    let r = run_by(g, caller, what, bytes);
     if what != 0 {
         guidance.config = r.guidance.config;
         guidance.former = r.guidance.former;

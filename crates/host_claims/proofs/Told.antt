@@ -24,10 +24,11 @@ use Rattle.records.specs.declared.call.ReadCall.the-variants as call
 use Rattle.records.specs.declared.config.ReadConfig.{ReadConfig}
 use Rattle.records.specs.declared.config.ReadConfig.the-variants as config
 use Rattle.host_answers.specs.Answer.{bare, ofSetpoint, ofField, ofReply}
-use Rattle.host.specs.Run.{unchanged, performed, made, ofCall, ofConfig, ofNew, runCall, runConfig, runNew, runBack, run}
+use Rattle.rights.specs.Rights.{may}
+use Rattle.host.specs.Run.{unchanged, performed, made, ofCall, ofConfig, ofNew, runCall, runConfig, runNew, runBack, run, deedOf, runBy}
 use Rattle.host_answers.specs.declared.answer.RunAnswer.{RunAnswer}
 use Rattle.host.specs.declared.run.Ran.{Ran}
-use Rattle.host_claims.specs.Inputs.{Input, Meaning, aCall, aFresh, refusedAs, callMeaning, configMeaning, newOf, newMeaning, meaning, runOn, answers, left, callsBy, callsOf, NoFresh, OneList, refused, struckBy, fellBackBy, strikesBy, toldBy, told}
+use Rattle.host_claims.specs.Inputs.{Input, Meaning, aCall, aFresh, refusedAs, callMeaning, configMeaning, newOf, newMeaning, asked, meaning, runOn, answers, left, callsBy, callsOf, NoFresh, OneList, refused, struckBy, fellBackBy, strikesBy, toldBy, told}
 
 -- ---- one input
 
@@ -57,9 +58,9 @@ new-is : (g : PlaneGuidance) (r : ReadConfig) → ofNew g r ≡ runAs g (newMean
 new-is g (config.Refused n) = refl
 new-is g (config.Read c next) = made-is g c next
 
-pub run-is : (g : PlaneGuidance) (i : Input) → runOn g i ≡ runAs g (meaning i)
-unfolding run runCall runConfig runNew runBack meaning
-run-is g i = go (eqb (i .what) 0) (eqb (i .what) 1) (eqb (i .what) 2) (eqb (i .what) 3)
+asked-is : (g : PlaneGuidance) (i : Input) → run g (i .what) (i .bytes) ≡ runAs g (asked i)
+unfolding run runCall runConfig runNew runBack asked
+asked-is g i = go (eqb (i .what) 0) (eqb (i .what) 1) (eqb (i .what) 2) (eqb (i .what) 3)
   where
     r : ReadCall
     r = readCall (i .bytes) 0
@@ -75,6 +76,14 @@ run-is g i = go (eqb (i .what) 0) (eqb (i .what) 1) (eqb (i .what) 2) (eqb (i .w
     go false false true d = new-is g s
     go false false false true = refl
     go false false false false = refl
+
+pub run-is : (g : PlaneGuidance) (i : Input) → runOn g i ≡ runAs g (meaning i)
+unfolding runBy meaning
+run-is g i = go (may (i .caller) (deedOf (i .what)))
+  where
+    go : (b : Bool) → cond b (run g (i .what) (i .bytes)) (unchanged g 13 0 0) ≡ runAs g (cond b (asked i) (refusedAs 13 0 0))
+    go true = asked-is g i
+    go false = refl
 
 -- the host sees a refusal where the reply is one
 setpoint-accepted : (t : Setpoint) (lateral vertical : ℕ) (off : Float) (next : ℕ) → ofSetpoint t lateral vertical off next .refusal ≡ 0
@@ -267,9 +276,9 @@ made-passes : (r : ReadConfig) → Passes (newMeaning r)
 made-passes (config.Refused n) = tt
 made-passes (config.Read c next) = new-passes c next
 
-pub passes : (i : Input) (c : PlaneGuidanceConfig) (next : ℕ) → meaning i ≡ aFresh c next → validate c ≡ 0
-unfolding meaning
-passes i c next e = subst Passes e (go (eqb (i .what) 0) (eqb (i .what) 1) (eqb (i .what) 2) (eqb (i .what) 3))
+asked-passes : (i : Input) → Passes (asked i)
+unfolding asked
+asked-passes i = go (eqb (i .what) 0) (eqb (i .what) 1) (eqb (i .what) 2) (eqb (i .what) 3)
   where
     called : Meaning
     called = callMeaning (readCall (i .bytes) 0)
@@ -284,6 +293,14 @@ passes i c next e = subst Passes e (go (eqb (i .what) 0) (eqb (i .what) 1) (eqb 
     go false false true b = made-passes read
     go false false false true = tt
     go false false false false = tt
+
+pub passes : (i : Input) (c : PlaneGuidanceConfig) (next : ℕ) → meaning i ≡ aFresh c next → validate c ≡ 0
+unfolding meaning
+passes i c next e = subst Passes e (go (may (i .caller) (deedOf (i .what))))
+  where
+    go : (b : Bool) → Passes (cond b (asked i) (refusedAs 13 0 0))
+    go true = asked-passes i
+    go false = tt
 
 -- what follows a fresh guidance does not depend on what came before
 pub fresh-next : (g : PlaneGuidance) (i : Input) (is : List Input) (c : PlaneGuidanceConfig) (next : ℕ) → meaning i ≡ aFresh c next →

@@ -18,19 +18,21 @@ use Rattle.records.specs.declared.config.ReadConfig.{ReadConfig}
 use Rattle.records.specs.declared.config.ReadConfig.the-variants as config
 use Rattle.calls.specs.Calls.{callOf}
 use Rattle.host_answers.specs.Answer.{bare, ofReply}
-use Rattle.host.specs.Run.{run}
+use Rattle.rights.specs.Rights.{may}
+use Rattle.host.specs.Run.{deedOf, runBy}
 use Rattle.host_answers.specs.declared.answer.RunAnswer.{RunAnswer}
 use Rattle.host.specs.declared.run.Ran.{Ran}
 
--- the number of what is wanted, and a record's bytes
+-- the caller, the number of what is wanted, and a record's bytes
 pub record Input : Type 0 where
+  pub caller : ℕ
   pub what : ℕ
   pub bytes : List ℕ
 
--- ---- what an input is, by its own bytes
+-- ---- what an input is, by its caller and its own bytes
 
--- one of demand 3's calls; a fresh guidance; or a refusal that no guidance decides: a record that cannot be read (5, 6, 7),
--- a fresh guidance of a configuration that fails (1 with its field), an unknown number (255)
+-- one of demand 3's calls; a fresh guidance; or a refusal that no guidance decides: a caller without the right (13), a record that
+-- cannot be read (5, 6, 7), a fresh guidance of a configuration that fails (1 with its field), an unknown number (255)
 pub data Meaning : Type 0 where
   aCall : Call → ℕ → Meaning
   aFresh : PlaneGuidanceConfig → ℕ → Meaning
@@ -52,18 +54,22 @@ abbrev pub newMeaning : ReadConfig → Meaning
 newMeaning (config.Refused n) = refusedAs n 0 0
 newMeaning (config.Read c next) = newOf c next (created c)
 
-unfoldable pub meaning : Input → Meaning
-meaning i =
+-- of a caller who has the right
+unfoldable pub asked : Input → Meaning
+asked i =
     cond (eqb (i .what) 0) (callMeaning (readCall (i .bytes) 0))
     (cond (eqb (i .what) 1) (configMeaning (readConfig (i .bytes) 0))
     (cond (eqb (i .what) 2) (newMeaning (readConfig (i .bytes) 0))
     (cond (eqb (i .what) 3) (aCall takeBack 0)
     (refusedAs 255 0 0))))
 
+unfoldable pub meaning : Input → Meaning
+meaning i = cond (may (i .caller) (deedOf (i .what))) (asked i) (refusedAs 13 0 0)
+
 -- ---- a run: each input gets the guidance that the one before it left
 
 abbrev pub runOn : PlaneGuidance → Input → Ran
-runOn g i = run g (i .what) (i .bytes)
+runOn g i = runBy g (i .caller) (i .what) (i .bytes)
 
 unfoldable pub answers : PlaneGuidance → List Input → List RunAnswer
 answers g [] = []

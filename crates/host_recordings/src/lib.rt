@@ -1,5 +1,6 @@
 // Recordings for a host in C or Rust, beside the guidance of `host`: an object of its own, so that the code of a call stays one
-// piece there. A recording is compacted inside its buffer.
+// piece there. A recording is compacted inside its buffer. Whoever replays records acts as the skipper (document 02, K9): there is no
+// caller to judge.
 use compaction::Compacted;
 use compaction::compact;
 ghost use mathlib.Core.Path.{_≡_};

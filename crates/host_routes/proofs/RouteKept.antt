@@ -1,5 +1,6 @@
--- A route call keeps both configurations, so that they need not be put back.
+-- A route call keeps both configurations, whoever sends it, so that they need not be put back.
 -- Assumes nothing.
+use Prim.Native.Nat.{ℕ}
 use mathlib.Core.Path.{_≡_, refl}
 use mathlib.Core.Bool.{Bool, true, false, cond}
 use mathlib.Core.List.{List}
@@ -15,8 +16,10 @@ use Rattle.routes.specs.Route.{pointsOf, waypointFor, counted, wanted, guidedTo
 use Rattle.routes.specs.declared.Route.{Route}
 use Rattle.routes.specs.declared.RouteCall.{RouteCall}
 use Rattle.routes.specs.declared.Flown.{Flown}
+use Rattle.rights.specs.Rights.{may}
+use Rattle.rights.specs.declared.Deed.the-variants as deed
 use Rattle.host_answers.specs.Answer.{bare}
-use Rattle.host_routes.specs.Route.{routeOf, callOf, flownOf, runRoute}
+use Rattle.host_routes.specs.Route.{routeOf, callOf, flownOf, runRoute, runRouteBy}
 use Rattle.host_routes.specs.declared.route.RouteNumbers.{RouteNumbers}
 use Rattle.host_routes.specs.declared.route.RouteRan.{RouteRan}
 use Rattle.host_answers.proofs.Kept.{guided-keeps}
@@ -39,9 +42,15 @@ either-ran : (b : Bool) (x y : RouteRan) {t : Settings} → settingsOf (x .guida
 either-ran true x y p q = p
 either-ran false x y p q = q
 
-pub route-keeps : (g : PlaneGuidance) (k : RouteNumbers) (numbers : List Float) → settingsOf (runRoute g k numbers .guidance) ≡ settingsOf g
+route-keeps : (g : PlaneGuidance) (k : RouteNumbers) (numbers : List Float) → settingsOf (runRoute g k numbers .guidance) ≡ settingsOf g
 unfolding runRoute
 route-keeps g k numbers =
     let o = fly g (routeOf k) numbers (callOf k) in
     either-ran (ltb 1 (k .regime)) (record { guidance = g; answer = record { answer = bare 7 0 0; number = k .number } }) (flownOf o) refl
     (fly-keeps g (routeOf k) numbers (callOf k))
+
+pub route-by-keeps : (g : PlaneGuidance) (caller : ℕ) (k : RouteNumbers) (numbers : List Float) → settingsOf (runRouteBy g caller k numbers .guidance) ≡ settingsOf g
+unfolding runRouteBy
+route-by-keeps g caller k numbers =
+    either-ran (may caller deed.RouteCall) (runRoute g k numbers) (record { guidance = g; answer = record { answer = bare 13 0 0; number = k .number } })
+    (route-keeps g k numbers) refl

@@ -2,6 +2,7 @@
 // maps of a record, 62 bits.
 use call_numbers::option_of;
 use call_numbers::regime_of;
+use fields::Written;
 use guidance::plane::PlaneGuidance;
 use host_answers::answer::RunAnswer;
 use host_answers::answer::bare;
@@ -10,6 +11,8 @@ use host_answers::place::Place;
 use host_answers::place::place_of;
 use laws::types::Vec3;
 use laws::types::VehicleState;
+use rights::Deed;
+use rights::may;
 use route_records::Loaded;
 use route_records::load_route;
 use route_records::write_route;
@@ -17,9 +20,7 @@ use routes::Route;
 use routes::RouteCall;
 use routes::fly;
 ghost use mathlib.Core.Path.{_≡_};
-ghost use Rattle.route_records.specs.Record.{loadAnswer, loadBuffer, writeAnswer, writeBuffer};
 ghost use Rattle.host_routes.specs.Route as spec;
-ghost use Rattle.host_answers.specs.Place.{placeOf};
 
 // What loading answers. refusal: 0 or the refusal's number; number: 1, the point that is flown to first; next: the place
 // after the record. Refused, all but the refusal are 0.
@@ -79,23 +80,36 @@ fn loaded_of(loaded: Loaded) -> RouteLoaded
     }
 }
 
+// Number 13 comes before every other check here and below, of the bytes too.
 #[no_mangle]
-pub extern "C" fn nuthkolla_load_route(bytes: &[u8], at: usize, numbers: &mut [f32]) -> RouteLoaded
-    ensures { λ r. ⌜ (r ≡ spec.loadedOf (loadAnswer (now (bytes .entry)) at (now (numbers .entry)))) × (now (numbers .exit) ≡ loadBuffer (now (bytes .entry)) at (now (numbers .entry))) ⌝ }
+pub extern "C" fn nuthkolla_load_route(
+    caller: u32,
+    bytes: &[u8],
+    at: usize,
+    numbers: &mut [f32],
+) -> RouteLoaded
+    ensures { λ r. ⌜ (r ≡ spec.loadBy caller (now (bytes .entry)) at (now (numbers .entry))) × (now (numbers .exit) ≡ spec.loadBufferBy caller (now (bytes .entry)) at (now (numbers .entry))) ⌝ }
 {
-    loaded_of(load_route(bytes, at, numbers))
+    if may(caller, Deed::LoadRoute) {
+        return loaded_of(load_route(bytes, at, numbers));
+    }
+    loaded_of(Loaded::Refused(13))
 }
 
 #[no_mangle]
 pub extern "C" fn nuthkolla_write_route(
+    caller: u32,
     out: &mut [u8],
     at: usize,
     map: u64,
     numbers: &[f32],
 ) -> Place
-    ensures { λ r. ⌜ (r ≡ placeOf (writeAnswer (now (out .entry)) at map (now (numbers .entry)))) × (now (out .exit) ≡ writeBuffer (now (out .entry)) at map (now (numbers .entry))) ⌝ }
+    ensures { λ r. ⌜ (r ≡ spec.writeBy caller (now (out .entry)) at map (now (numbers .entry))) × (now (out .exit) ≡ spec.writeBufferBy caller (now (out .entry)) at map (now (numbers .entry))) ⌝ }
 {
-    place_of(write_route(out, at, map, numbers))
+    if may(caller, Deed::WriteRoute) {
+        return place_of(write_route(out, at, map, numbers));
+    }
+    place_of(Written::Refused(13))
 }
 
 // The route and the call of a host's numbers.
@@ -153,17 +167,33 @@ pub fn run_route(g: PlaneGuidance, k: RouteNumbers, numbers: &[f32]) -> RouteRan
     }
 }
 
+pub fn run_route_by(g: PlaneGuidance, caller: u32, k: RouteNumbers, numbers: &[f32]) -> RouteRan
+    ensures { λ r. ⌜ r ≡ spec.runRouteBy g caller k (now (numbers .entry)) ⌝ }
+{
+    if may(caller, Deed::RouteCall) {
+        return run_route(g, k, numbers);
+    }
+    RouteRan {
+        guidance: g,
+        answer: RouteAnswer {
+            answer: bare(13, 0, 0),
+            number: k.number,
+        },
+    }
+}
+
 // A route call changes no configuration, neither the one in force nor the kept one, so they are not put back.
 #[no_mangle]
 pub extern "C" fn nuthkolla_run_route(
     guidance: &mut PlaneGuidance,
+    caller: u32,
     call: RouteNumbers,
     numbers: &[f32],
 ) -> RouteAnswer
-    ensures { λ r. ⌜ (now (guidance .exit) ≡ spec.runRoute (now (guidance .entry)) call (now (numbers .entry)) .guidance) × (r ≡ spec.runRoute (now (guidance .entry)) call (now (numbers .entry)) .answer) ⌝ }
+    ensures { λ r. ⌜ (now (guidance .exit) ≡ spec.runRouteBy (now (guidance .entry)) caller call (now (numbers .entry)) .guidance) × (r ≡ spec.runRouteBy (now (guidance .entry)) caller call (now (numbers .entry)) .answer) ⌝ }
 {
     let g = *guidance;
-    let r = run_route(g, call, numbers);
+    let r = run_route_by(g, caller, call, numbers);
     guidance.requested = r.guidance.requested;
     guidance.altitude = r.guidance.altitude;
     guidance.tecs = r.guidance.tecs;

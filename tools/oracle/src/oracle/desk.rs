@@ -74,7 +74,7 @@ fn sum(numbers: &Numbers) -> u32 {
 }
 
 /// Whether a configuration is kept to be taken back, and sums of the one in force and of the kept one, the default where there is none.
-fn settings_text(settings: &Settings) -> String {
+pub fn settings_text(settings: &Settings) -> String {
     let former = settings.former.unwrap_or_else(configuration::default);
     format!("{} {:08x} {:08x}", settings.former.is_some() as u32, sum(&settings.numbers), sum(&former))
 }

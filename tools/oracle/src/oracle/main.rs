@@ -1,6 +1,7 @@
 //! The oracle: the published guidance with document 01's stand-in arithmetic, and around it
 //! what document 01 adds. See tools/oracle/README.md for the commands.
 
+mod callers;
 mod codec;
 mod compact;
 mod configuration;
@@ -230,6 +231,8 @@ fn main() {
         Some("routes") => output(route::lines(&input()).0.as_bytes()),
         Some("refused-loads") => output(route::lines(&input()).1.as_bytes()),
         Some("generate-routes") if rest.len() == 2 => output(&route::generate(number(rest, 0), number(rest, 1) as usize)),
+        Some("callers") => output(callers::lines(&input()).as_bytes()),
+        Some("generate-callers") if rest.len() == 2 => output(&callers::generate(number(rest, 0), number(rest, 1) as usize)),
         Some("records") => output(codec::lines(&input()).as_bytes()),
         Some("evaluate") => output(evaluate(&String::from_utf8_lossy(&input())).as_bytes()),
         Some("functions") => output(list_functions().as_bytes()),

@@ -5,6 +5,7 @@
 //! four bytes: regime, time step, position (3), velocity (3), roll, whether there is an airspeed, airspeed, whether there is a cap, cap.
 //! 5: two bytes with a buffer's length and two with a place in it; the route is written there.
 
+use crate::configuration::Numbers;
 use crate::desk::{answer_text, state_text};
 use crate::flown::judge::Plane;
 use crate::flown::{Flown, validate};
@@ -22,7 +23,7 @@ pub struct Route {
     first: u32,  // bits 0 to 30 of the first map
     second: u32, // bits 0 to 30 of the second; 0 where there is none
     points: Vec<Point>,
-    number: usize,
+    pub number: usize,
 }
 
 /// What comes with a route call.
@@ -109,6 +110,12 @@ impl Route {
         bytes
     }
 
+    /// The map, and a sum of the points' bits.
+    pub fn text(&self) -> String {
+        let sum = |sum: u32, number: &f32| sum.wrapping_mul(16_777_619).wrapping_add(number.to_bits());
+        format!("{:x} {:08x}", self.map(), self.points.iter().flatten().fold(0, sum))
+    }
+
     /// Point `number`, from 1 on.
     fn point(&self, number: usize) -> &Point {
         &self.points[number - 1]
@@ -162,16 +169,22 @@ fn fly(guidance: &mut Plane, route: &mut Route, radius: f32, given: &Given) -> R
     Ok(answer)
 }
 
-struct Run<'a> {
-    input: &'a [u8],
-    place: usize,
-    guidance: Plane,
-    settings: Settings,
-    route: Route,
+pub struct Run<'a> {
+    pub input: &'a [u8],
+    pub place: usize,
+    pub guidance: Plane,
+    pub settings: Settings,
+    pub route: Route,
     refused_loads: String, // why each was, a line each
 }
 
-impl Run<'_> {
+impl<'a> Run<'a> {
+    /// A fresh guidance of these numbers, and no route.
+    pub fn new(input: &'a [u8], place: usize, numbers: &Numbers) -> Self {
+        let (guidance, settings) = (Plane::new(numbers), Settings::new(numbers));
+        Run { input, place, guidance, settings, route: Route::default(), refused_loads: String::new() }
+    }
+
     fn take(&mut self, count: usize) -> Option<Vec<u8>> {
         let bytes = self.input.get(self.place..self.place + count)?.to_vec();
         self.place += count;
@@ -183,7 +196,7 @@ impl Run<'_> {
     }
 
     /// The text of the next entry's line; none where the list is broken.
-    fn next(&mut self) -> Option<String> {
+    pub fn next(&mut self) -> Option<String> {
         match self.take(1)?[0] {
             0 => {
                 let (call, next) = record::read_call(self.input, self.place).ok()?;
@@ -263,9 +276,7 @@ pub fn lines(input: &[u8]) -> (String, String) {
     if validate(&numbers) != 0 {
         return ("config refused\n".to_string(), String::new());
     }
-    let settings = Settings::new(&numbers);
-    let guidance = Plane::new(&numbers);
-    let mut run = Run { input, place, guidance, settings, route: Route::default(), refused_loads: String::new() };
+    let mut run = Run::new(input, place, &numbers);
     let mut out = String::new();
     let mut n = 1;
     while run.place < input.len() {

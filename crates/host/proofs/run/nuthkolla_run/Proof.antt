@@ -1,5 +1,5 @@
--- `nuthkolla_run` meets its contract: a walk of its MIR, by hand. The borrow is opened, the guidance is copied out of it, `run` is called on the copy, and the borrow is closed at the guidance that `run` returned: the configuration in force and the kept one are stored where the number is not 0, and are the same where it is; then the other fields are stored. The record's bytes are lent on to `run`.
--- All that the proof knows of `run` is that it meets its contract, and of its definition that a call keeps both configurations.
+-- `nuthkolla_run` meets its contract: a walk of its MIR, by hand. The borrow is opened, the guidance is copied out of it, `run_by` is called on the copy, and the borrow is closed at the guidance that `run_by` returned: the configuration in force and the kept one are stored where the number is not 0, and are the same where it is; then the other fields are stored. The record's bytes are lent on to `run_by`.
+-- All that the proof knows of `run_by` is that it meets its contract, and of its definition that a call keeps both configurations.
 -- Assumes nothing.
 use mathlib.Core.Path.{_≡_, refl, ap, sym, _∙_}
 use mathlib.Core.Bool.{Bool, true, false, not}
@@ -52,8 +52,8 @@ use Rattle.laws.proofs.navigation.PiLoop as Altitude
 use Rattle.laws.proofs.navigation.PiLoop.Laws as Altitude′
 use Rattle.laws.proofs.tecs.Tecs as Energy
 use Rattle.laws.proofs.tecs.Tecs.Laws as Energy′
-use Rattle.host.proofs.Kept.{run-keeps}
-use Rattle.host.specs.Run.{run as runOf}
+use Rattle.host.proofs.Kept.{run-by-keeps}
+use Rattle.host.specs.Run.{runBy}
 use Rattle.guidance.specs.declared.plane.PlaneGuidance.{PlaneGuidance}
 use Rattle.guidance.proofs.plane.Former as Former
 use Rattle.guidance.proofs.plane.Former.Laws as Former′
@@ -65,10 +65,10 @@ use Rattle.host.proofs.run.Ran as S
 use Rattle.host.proofs.run.Ran.Laws as S′
 use Rattle.host_answers.proofs.answer.RunAnswer as O
 use Rattle.host_answers.proofs.answer.RunAnswer.Laws as O′
-use Rattle.host.proofs.run.run as callee
-use Rattle.host.proofs.run.run.Symbol as callee-def
-use Rattle.host.proofs.run.run.Symbol.{name as #host·run·run}
-use Rattle.host.proofs.run.run.Met as callee-thm
+use Rattle.host.proofs.run.run_by as callee
+use Rattle.host.proofs.run.run_by.Symbol as callee-def
+use Rattle.host.proofs.run.run_by.Symbol.{name as #host·run·run-by}
+use Rattle.host.proofs.run.run_by.Met as callee-thm
 use Rattle.host.proofs.run.nuthkolla_run.Key.{name as #host·run·nuthkolla-run}
 use Rattle.host.proofs.run.nuthkolla_run as f
 use Rattle.host.proofs.run.nuthkolla_run.Statement as stated
@@ -76,14 +76,14 @@ use Rattle.host.proofs.run.nuthkolla_run.Code as code
 use Rattle.host.proofs.run.nuthkolla_run.Code.Mir as parts
 
 abbrev Arg : Type 0
-Arg = RefT PlaneGuidance × (ℕ × (RefT (List ℕ) × Unit {0}))
+Arg = RefT PlaneGuidance × (ℕ × (ℕ × (RefT (List ℕ) × Unit {0})))
 
 abbrev stayed : Stays (f.ended .signature .params) (f.ended .kept)
-stayed = (stay-ref (0 ∷ []) tt (plain (λ _. T.the-row)), (stay-none (λ _. u32) yes, (stay-none-slice (1 ∷ []) tt (plain (λ _. u8)) yes, tt)))
+stayed = (stay-ref (0 ∷ []) tt (plain (λ _. T.the-row)), (stay-none (λ _. u32) yes, (stay-none (λ _. u32) yes, (stay-none-slice (1 ∷ []) tt (plain (λ _. u8)) yes, tt))))
 
 -- what is not put back is as it was
-same-settings : (h : PlaneGuidance) (n : ℕ) (s : List ℕ) (r : Ran) → n ≡ 0 → r ≡ runOf h n s → settingsOf h ≡ settingsOf (r .guidance)
-same-settings h n s r z e = sym (ap (λ (y : Ran). settingsOf (y .guidance)) (e ∙ ap (λ (m : ℕ). runOf h m s) z) ∙ run-keeps h s)
+same-settings : (h : PlaneGuidance) (who n : ℕ) (s : List ℕ) (r : Ran) → n ≡ 0 → r ≡ runBy h who n s → settingsOf h ≡ settingsOf (r .guidance)
+same-settings h who n s r z e = sym (ap (λ (y : Ran). settingsOf (y .guidance)) (e ∙ ap (λ (m : ℕ). runBy h who m s) z) ∙ run-by-keeps h who s)
 
 double-not : (t : Bool) → T (not (not t)) → T t
 double-not true z = z
@@ -96,16 +96,16 @@ is-zero n z = eqb→eq n 0 (double-not (eqb n 0) z)
 abbrev Run : {M : Type 1} (𝓤 : URA M) (H : Heap 𝓤) (A : Atoms 𝓤) (at-mem : Memory → SProp 𝓤) (run : Routine → Fun 𝓤) → Contract 𝓤
 Run 𝓤 H A at-mem run = tripleOf 𝓤 H A callee.signature (callee.spec 𝓤 H A at-mem run)
 
-module _ {M : Type 1} (𝓤 : URA M) (H : Heap 𝓤) (A : Atoms 𝓤) (W : Given 𝓤 H A) (at-mem : Memory → SProp 𝓤) (run : Routine → Fun 𝓤) (κ κ′ : Lft) (bounds : AllOutlive 2 (f.signature .outlives) (κ, (κ′, tt))) (q q′ : Share) (b o : ℕ) (γ : GName) (h : PlaneGuidance) (n : ℕ) (s : RefT (List ℕ)) where
+module _ {M : Type 1} (𝓤 : URA M) (H : Heap 𝓤) (A : Atoms 𝓤) (W : Given 𝓤 H A) (at-mem : Memory → SProp 𝓤) (run : Routine → Fun 𝓤) (κ κ′ : Lft) (bounds : AllOutlive 2 (f.signature .outlives) (κ, (κ′, tt))) (q q′ : Share) (b o : ℕ) (γ : GName) (h : PlaneGuidance) (who n : ℕ) (s : RefT (List ℕ)) where
   abbrev x : Arg
-  x = (record { ptr = (b, o); name = γ; now = h }, (n, (s, tt)))
+  x = (record { ptr = (b, o); name = γ; now = h }, (who, (n, (s, tt))))
 
   -- the machine value of the record's bytes
   abbrev v : Val
   v = sliceVal (s .ptr) (length (s .now))
 
-  abbrev at : List Val × (List Val × (List Val × Unit {0}))
-  at = (vptr b o ∷ [], (vint w32 n ∷ [], (v ∷ [], tt)))
+  abbrev at : List Val × (List Val × (List Val × (List Val × Unit {0})))
+  at = (vptr b o ∷ [], (vint w32 who ∷ [], (vint w32 n ∷ [], (v ∷ [], tt))))
 
   abbrev Own : Fml
   Own = ShrSlice (named 1) κ′ u8 .own s (v ∷ [])
@@ -118,16 +118,16 @@ module _ {M : Type 1} (𝓤 : URA M) (H : Heap 𝓤) (A : Atoms 𝓤) (W : Given
   mach′ = LL.val S.the-type S′.the-laws
 
   -- of the callee's `ensured`, the clause alone
-  ran-of : (r : Ran) → ent 𝓤 (ensured 𝓤 H A callee.ended (callee.clauses 𝓤 H A at-mem run) (κ′, tt) (h, (n, (s, tt))) tt r) (fact 𝓤 (r ≡ runOf h n (now s)))
-  ran-of r = exE 𝓤 _ (λ ws. snd∗ 𝓤 (sem 𝓤 H A (lasts callee.ended (κ′, tt) (h, (n, (s, tt))) ws)) (fact 𝓤 (r ≡ runOf h n (now s))))
+  ran-of : (r : Ran) → ent 𝓤 (ensured 𝓤 H A callee.ended (callee.clauses 𝓤 H A at-mem run) (κ′, tt) (h, (who, (n, (s, tt)))) tt r) (fact 𝓤 (r ≡ runBy h who n (now s)))
+  ran-of r = exE 𝓤 _ (λ ws. snd∗ 𝓤 (sem 𝓤 H A (lasts callee.ended (κ′, tt) (h, (who, (n, (s, tt)))) ws)) (fact 𝓤 (r ≡ runBy h who n (now s))))
 
   abbrev to-run : Run 𝓤 H A at-mem run .Ghost
-  to-run = (((κ′, tt), (q′, tt), tt, (h, (n, (s, tt))), (mach h ∷ [], (vint w32 n ∷ [], (v ∷ [], tt)))), tt)
+  to-run = (((κ′, tt), (q′, tt), tt, (h, (who, (n, (s, tt)))), (mach h ∷ [], (vint w32 who ∷ [], (vint w32 n ∷ [], (v ∷ [], tt))))), tt)
 
-  goes-run : Is u32 n (vint w32 n ∷ []) → Is T.the-row h (mach h ∷ []) → ent 𝓤 (⋆ 𝓤 H A (‵ Own ∷ (‵ (flft κ′ q′) ⊛ ‵ ftrue) ∷ [])) (Run 𝓤 H A at-mem run .pre to-run)
-  goes-run ok was =
+  goes-run : Is u32 who (vint w32 who ∷ []) → Is u32 n (vint w32 n ∷ []) → Is T.the-row h (mach h ∷ []) → ent 𝓤 (⋆ 𝓤 H A (‵ Own ∷ (‵ (flft κ′ q′) ⊛ ‵ ftrue) ∷ [])) (Run 𝓤 H A at-mem run .pre to-run)
+  goes-run ok₀ ok was =
       qed W (‵ Own ∷ (‵ (flft κ′ q′) ⊛ ‵ ftrue) ∷ []) ∵ nothing ! $ move ! (1 ∷ 0 ∷ []) $ fjoin ! $ owned ! u32 (Is u32) (uint-makes 𝓤 H A W w32) n _ ok $ fjoin ! $
-      owned ! T.the-row (Is T.the-row) ((LL.makes T.the-type T′.the-plain) 𝓤 H A) h _ was $ fjoin ! $ move ! (1 ∷ 0 ∷ []) $ join ! $ frame ! $ done !
+      owned ! u32 (Is u32) (uint-makes 𝓤 H A W w32) who _ ok₀ $ fjoin ! $ owned ! T.the-row (Is T.the-row) ((LL.makes T.the-type T′.the-plain) 𝓤 H A) h _ was $ fjoin ! $ move ! (1 ∷ 0 ∷ []) $ join ! $ frame ! $ done !
 
   abbrev Post : Val → SProp 𝓤
   Post = walkOf 𝓤 H A f.ended stayed (f.clauses 𝓤 H A at-mem run) .post (((κ, (κ′, tt)), (q, (q′, tt)), bounds, x, at), tt)
@@ -155,14 +155,15 @@ module _ {M : Type 1} (𝓤 : URA M) (H : Heap 𝓤) (A : Atoms 𝓤) (W : Given
   answer-of : (r : Ran) → Is S.the-row r (mach′ r ∷ []) → Is O.the-row (r .answer) (LL.val O.the-type O′.the-laws (r .answer) ∷ [])
   answer-of r is = LL.owed S.the-type S′.the-laws r _ is .1 .0
 
-  exits : Is u32 n (vint w32 n ∷ []) → (r : Ran) → Is S.the-row r (mach′ r ∷ []) → r ≡ runOf h n (now s)
+  exits : Is u32 who (vint w32 who ∷ []) → Is u32 n (vint w32 n ∷ []) → (r : Ran) → Is S.the-row r (mach′ r ∷ []) → r ≡ runBy h who n (now s)
       → ent 𝓤 (⋆ 𝓤 H A (‵ (fobs γ (T.the-row .coded .code (r .guidance))) ∷ ‵ (fbor κ (Body (mem T.the-row) b o γ)) ∷ ‵ (flft κ q) ∷ (‵ (flft κ′ q′) ⊛ ‵ ftrue) ∷ ‵ Own ∷ [])) (Post (LL.val O.the-type O′.the-laws (r .answer)))
-  exits ok r is e =
+  exits ok₀ ok r is e =
       qed W (‵ (fobs γ (T.the-row .coded .code (r .guidance))) ∷ ‵ (fbor κ (Body (mem T.the-row) b o γ)) ∷ ‵ (flft κ q) ∷ (‵ (flft κ′ q′) ⊛ ‵ ftrue) ∷ ‵ Own ∷ []) ∵
-      suffices ! _ (ends-at 𝓤 H A f.ended stayed (f.clauses 𝓤 H A at-mem run) W (((κ, (κ′, tt)), (q, (q′, tt)), bounds, x, at), tt) (LL.val O.the-type O′.the-laws (r .answer)) (r .answer) (r .guidance, (tt, (tt, tt))) (tt, (tt, (tt, tt)))) $
+      suffices ! _ (ends-at 𝓤 H A f.ended stayed (f.clauses 𝓤 H A at-mem run) W (((κ, (κ′, tt)), (q, (q′, tt)), bounds, x, at), tt) (LL.val O.the-type O′.the-laws (r .answer)) (r .answer) (r .guidance, (tt, (tt, (tt, tt)))) (tt, (tt, (tt, (tt, tt))))) $
       says ! (ap (λ (y : Ran). y .guidance) e, ap (λ (y : Ran). y .answer) e) $ move ! (2 ∷ 3 ∷ []) $ join ! $ frame ! $
       -- [obs; the borrow; what the record's slice owns]
-      feqI ! (List Val) (vptr b o ∷ []) (vptr b o ∷ []) refl $ fjoin3 ! $ nothing ! $ move ! (2 ∷ 0 ∷ []) $ fjoin ! $ owned ! u32 (Is u32) (uint-makes 𝓤 H A W w32) n _ ok $ fjoin ! $ move ! (1 ∷ 0 ∷ []) $ fjoin ! $
+      feqI ! (List Val) (vptr b o ∷ []) (vptr b o ∷ []) refl $ fjoin3 ! $ nothing ! $ move ! (2 ∷ 0 ∷ []) $ fjoin ! $ owned ! u32 (Is u32) (uint-makes 𝓤 H A W w32) n _ ok $ fjoin ! $
+      owned ! u32 (Is u32) (uint-makes 𝓤 H A W w32) who _ ok₀ $ fjoin ! $ move ! (1 ∷ 0 ∷ []) $ fjoin ! $
       owned ! O.the-row (Is O.the-row) ((LL.makes O.the-type O′.the-plain) 𝓤 H A) (r .answer) _ (answer-of r is) $ move ! (1 ∷ 0 ∷ []) $ done !
 
   -- the guidance with other settings
@@ -176,33 +177,34 @@ module _ {M : Type 1} (𝓤 : URA M) (H : Heap 𝓤) (A : Atoms 𝓤) (W : Given
   bytes-ty = sliceTy (tyRef (named 1) imm (tyInt w8))
 
   -- the entries of `Before`
-  abbrev twenty : List ℕ
-  twenty = 0 ∷ 1 ∷ 2 ∷ 3 ∷ 4 ∷ 5 ∷ 6 ∷ 7 ∷ 8 ∷ 9 ∷ 10 ∷ 11 ∷ 12 ∷ 13 ∷ 14 ∷ 15 ∷ 16 ∷ 17 ∷ 18 ∷ 19 ∷ []
+  abbrev twenty-two : List ℕ
+  twenty-two = 0 ∷ 1 ∷ 2 ∷ 3 ∷ 4 ∷ 5 ∷ 6 ∷ 7 ∷ 8 ∷ 9 ∷ 10 ∷ 11 ∷ 12 ∷ 13 ∷ 14 ∷ 15 ∷ 16 ∷ 17 ∷ 18 ∷ 19 ∷ 20 ∷ 21 ∷ []
 
-  module _ (C : Calls 𝓤 H) (Λ : Loops 𝓤 H) (r : Ran) (ok : Is u32 n (vint w32 n ∷ [])) (is : Is S.the-row r (mach′ r ∷ [])) (e : r ≡ runOf h n (now s)) (l₀ l₁ l₂ l₃ l₄ l₅ l₆ : ℕ) where
+  module _ (C : Calls 𝓤 H) (Λ : Loops 𝓤 H) (r : Ran) (ok₀ : Is u32 who (vint w32 who ∷ [])) (ok : Is u32 n (vint w32 n ∷ [])) (is : Is S.the-row r (mach′ r ∷ [])) (e : r ≡ runBy h who n (now s)) (l₀ l₁ l₂ l₃ l₄ l₅ l₆ l₇ : ℕ) where
     abbrev Locals : Env 𝓤 H
-    Locals = (O′.mir, l₀) ∷ (ref-ty, l₁) ∷ (tyInt w32, l₂) ∷ (bytes-ty, l₃) ∷ (T′.mir, l₄) ∷ (S′.mir, l₅) ∷ (tyBool, l₆) ∷ []
+    Locals = (O′.mir, l₀) ∷ (ref-ty, l₁) ∷ (tyInt w32, l₂) ∷ (tyInt w32, l₃) ∷ (bytes-ty, l₄) ∷ (T′.mir, l₅) ∷ (S′.mir, l₆) ∷ (tyBool, l₇) ∷ []
 
-    -- after the call, with y in the guidance's cell: the slice's token; what the slice owns; the guidance's cell; the open borrow; obs; auth; _6 to _1; room for _0
+    -- after the call, with y in the guidance's cell: the slice's token; what the slice owns; the guidance's cell; the open borrow; obs; auth; _7 to _1; room for _0
     abbrev Before : PlaneGuidance → List (Item 𝓤)
     Before y =
         (‵ (flft κ′ q′) ⊛ ‵ ftrue) ∷ ‵ Own ∷ ‵ (fat fullShare T′.mir b o (mach y)) ∷ ‵ (fobor κ q (Body (mem T.the-row) b o γ)) ∷ ‵ (fobs γ (T.the-row .coded .code h)) ∷ ‵ (fauth γ (T.the-row .coded .code h)) ∷
-        ‵ (fat fullShare tyBool l₆ 0 (vbool (not (eqb n 0)))) ∷ ‵ (fdies tyBool l₆) ∷ ‵ (fat fullShare S′.mir l₅ 0 (mach′ r)) ∷ ‵ (fdies S′.mir l₅) ∷ ‵ (fat fullShare T′.mir l₄ 0 (mach h)) ∷ ‵ (fdies T′.mir l₄) ∷
-        ‵ (fat fullShare bytes-ty l₃ 0 v) ∷ ‵ (fdies bytes-ty l₃) ∷ ‵ (fat fullShare (tyInt w32) l₂ 0 (vint w32 n)) ∷ ‵ (fdies (tyInt w32) l₂) ∷ ‵ (fat fullShare ref-ty l₁ 0 (vptr b o)) ∷ ‵ (fdies ref-ty l₁) ∷
+        ‵ (fat fullShare tyBool l₇ 0 (vbool (not (eqb n 0)))) ∷ ‵ (fdies tyBool l₇) ∷ ‵ (fat fullShare S′.mir l₆ 0 (mach′ r)) ∷ ‵ (fdies S′.mir l₆) ∷ ‵ (fat fullShare T′.mir l₅ 0 (mach h)) ∷ ‵ (fdies T′.mir l₅) ∷
+        ‵ (fat fullShare bytes-ty l₄ 0 v) ∷ ‵ (fdies bytes-ty l₄) ∷ ‵ (fat fullShare (tyInt w32) l₃ 0 (vint w32 n)) ∷ ‵ (fdies (tyInt w32) l₃) ∷
+        ‵ (fat fullShare (tyInt w32) l₂ 0 (vint w32 who)) ∷ ‵ (fdies (tyInt w32) l₂) ∷ ‵ (fat fullShare ref-ty l₁ 0 (vptr b o)) ∷ ‵ (fdies ref-ty l₁) ∷
         ‵ (froom O′.mir l₀ 0) ∷ ‵ (fdies O′.mir l₀) ∷ []
 
     -- from the second field on
     puts-back : Sq W (Before (with-settings (settingsOf (r .guidance)))) (runs C Λ Locals parts.t-5 (atRet Locals Post))
     puts-back =
-        assigns ! (of-opd ! (load ! (from ! (fld ! refl (fld ! refl (stop !)))) (look-in ! 8 (sub ! 1 refl (sub ! 0 refl (whole !)))))) (from ! (hop ! (look ! 16 refl) (fld ! refl (stop !)))) (store-in ! 2 (sub ! 1 refl (whole !)) (tt, record { fits = requested-of r is .1 })) $
-        assigns ! (of-opd ! (load ! (from ! (fld ! refl (fld ! refl (stop !)))) (look-in ! 8 (sub ! 2 refl (sub ! 0 refl (whole !)))))) (from ! (hop ! (look ! 16 refl) (fld ! refl (stop !)))) (store-in ! 2 (sub ! 2 refl (whole !)) (LL.lawful Altitude.the-type Altitude′.the-laws 𝓤 H A W .typed (r .guidance .altitude) _ (altitude-of r is) .0)) $
-        assigns ! (of-opd ! (load ! (from ! (fld ! refl (fld ! refl (stop !)))) (look-in ! 8 (sub ! 3 refl (sub ! 0 refl (whole !)))))) (from ! (hop ! (look ! 16 refl) (fld ! refl (stop !)))) (store-in ! 2 (sub ! 3 refl (whole !)) (LL.lawful Energy.the-type Energy′.the-laws 𝓤 H A W .typed (r .guidance .tecs) _ (tecs-of r is) .0)) $
-        assigns ! (of-opd ! (load ! (from ! (fld ! refl (stop !))) (look-in ! 8 (sub ! 1 refl (whole !))))) (from ! (stop !)) (init ! 18 refl (LL.lawful O.the-type O′.the-laws 𝓤 H A W .typed (r .answer) _ (answer-of r is) .0)) $
+        assigns ! (of-opd ! (load ! (from ! (fld ! refl (fld ! refl (stop !)))) (look-in ! 8 (sub ! 1 refl (sub ! 0 refl (whole !)))))) (from ! (hop ! (look ! 18 refl) (fld ! refl (stop !)))) (store-in ! 2 (sub ! 1 refl (whole !)) (tt, record { fits = requested-of r is .1 })) $
+        assigns ! (of-opd ! (load ! (from ! (fld ! refl (fld ! refl (stop !)))) (look-in ! 8 (sub ! 2 refl (sub ! 0 refl (whole !)))))) (from ! (hop ! (look ! 18 refl) (fld ! refl (stop !)))) (store-in ! 2 (sub ! 2 refl (whole !)) (LL.lawful Altitude.the-type Altitude′.the-laws 𝓤 H A W .typed (r .guidance .altitude) _ (altitude-of r is) .0)) $
+        assigns ! (of-opd ! (load ! (from ! (fld ! refl (fld ! refl (stop !)))) (look-in ! 8 (sub ! 3 refl (sub ! 0 refl (whole !)))))) (from ! (hop ! (look ! 18 refl) (fld ! refl (stop !)))) (store-in ! 2 (sub ! 3 refl (whole !)) (LL.lawful Energy.the-type Energy′.the-laws 𝓤 H A W .typed (r .guidance .tecs) _ (tecs-of r is) .0)) $
+        assigns ! (of-opd ! (load ! (from ! (fld ! refl (stop !))) (look-in ! 8 (sub ! 1 refl (whole !))))) (from ! (stop !)) (init ! 20 refl (LL.lawful O.the-type O′.the-laws 𝓤 H A W .typed (r .answer) _ (answer-of r is) .0)) $
         move ! (2 ∷ []) $ use1 W (‵ (cellAt fullShare (T.the-row .mir) (mach (r .guidance) ∷ []) b o)) (W .laws .at-raw fullShare T′.mir b o (mach (r .guidance))) $
         owned ! T.the-row (Is T.the-row) ((LL.makes T.the-type T′.the-plain) 𝓤 H A) (r .guidance) _ (guidance-of r is) $ move ! (1 ∷ 0 ∷ 4 ∷ 5 ∷ 6 ∷ []) $ closes ! tt T.the-row (r .guidance) (mach (r .guidance) ∷ []) b o $
-        returns ! (look ! 17 refl) $ forget ! 5 refl $ forget ! 7 refl $ forget ! 9 refl $ forget ! 11 refl $ forget ! 13 refl $ forget ! 15 refl $ forget ! 17 refl $
-        move ! (17 ∷ 18 ∷ []) $ free1 ! $ move ! (15 ∷ 16 ∷ []) $ free1 ! $ move ! (13 ∷ 14 ∷ []) $ free1 ! $ move ! (11 ∷ 12 ∷ []) $ free1 ! $ move ! (9 ∷ 10 ∷ []) $ free1 ! $ move ! (7 ∷ 8 ∷ []) $ free1 ! $ move ! (5 ∷ 6 ∷ []) $ free1 ! $ free0 ! $
-        by ! (exits ok r is e)
+        returns ! (look ! 19 refl) $ forget ! 5 refl $ forget ! 7 refl $ forget ! 9 refl $ forget ! 11 refl $ forget ! 13 refl $ forget ! 15 refl $ forget ! 17 refl $ forget ! 19 refl $
+        move ! (19 ∷ 20 ∷ []) $ free1 ! $ move ! (17 ∷ 18 ∷ []) $ free1 ! $ move ! (15 ∷ 16 ∷ []) $ free1 ! $ move ! (13 ∷ 14 ∷ []) $ free1 ! $ move ! (11 ∷ 12 ∷ []) $ free1 ! $ move ! (9 ∷ 10 ∷ []) $ free1 ! $ move ! (7 ∷ 8 ∷ []) $ free1 ! $ move ! (5 ∷ 6 ∷ []) $ free1 ! $ free0 ! $
+        by ! (exits ok₀ ok r is e)
 
     -- what is to hold where an arm ends
     abbrev Then : Kit.Post 𝓤 H
@@ -212,56 +214,56 @@ module _ {M : Type 1} (𝓤 : URA M) (H : Heap 𝓤) (A : Atoms 𝓤) (W : Given
     puts-config : Sq W (Before h) (runs C Λ Locals parts.s-4 Then)
     puts-config =
         branches ! (load ! (from ! (stop !)) (look ! 6 refl))
-        (λ t. assigns ! (of-opd ! (load ! (from ! (fld ! refl (fld ! refl (stop !)))) (look-in ! 8 (sub ! 0 refl (sub ! 0 refl (whole !)))))) (from ! (hop ! (look ! 16 refl) (fld ! refl (stop !)))) (store-in ! 2 (sub ! 0 refl (whole !)) (LL.lawful Config.the-type Config′.the-laws 𝓤 H A W .typed (r .guidance .config) _ (config-of r is) .0)) $
-        assigns-last ! (of-opd ! (load ! (from ! (fld ! refl (fld ! refl (stop !)))) (look-in ! 8 (sub ! 4 refl (sub ! 0 refl (whole !)))))) (from ! (hop ! (look ! 16 refl) (fld ! refl (stop !)))) (store-in ! 2 (sub ! 4 refl (whole !)) (LL.lawful Former.the-type Former′.the-laws 𝓤 H A W .typed (r .guidance .former) _ (former-of r is) .0)) $
+        (λ t. assigns ! (of-opd ! (load ! (from ! (fld ! refl (fld ! refl (stop !)))) (look-in ! 8 (sub ! 0 refl (sub ! 0 refl (whole !)))))) (from ! (hop ! (look ! 18 refl) (fld ! refl (stop !)))) (store-in ! 2 (sub ! 0 refl (whole !)) (LL.lawful Config.the-type Config′.the-laws 𝓤 H A W .typed (r .guidance .config) _ (config-of r is) .0)) $
+        assigns-last ! (of-opd ! (load ! (from ! (fld ! refl (fld ! refl (stop !)))) (look-in ! 8 (sub ! 4 refl (sub ! 0 refl (whole !)))))) (from ! (hop ! (look ! 18 refl) (fld ! refl (stop !)))) (store-in ! 2 (sub ! 4 refl (whole !)) (LL.lawful Former.the-type Former′.the-laws 𝓤 H A W .typed (r .guidance .former) _ (former-of r is) .0)) $
         exec ! C Λ Locals parts.t-5 (atRet Locals Post) $ puts-back)
         (λ z. skips ! $ exec ! C Λ Locals parts.t-5 (atRet Locals Post) $
-        rewrite ! 2 (λ (t : Settings). ‵ (fat fullShare T′.mir b o (mach (with-settings t)))) (same-settings h n (now s) r (is-zero n z) e) refl $ puts-back)
+        rewrite ! 2 (λ (t : Settings). ‵ (fat fullShare T′.mir b o (mach (with-settings t)))) (same-settings h who n (now s) r (is-zero n z) e) refl $ puts-back)
 
     ends : Sq W (Before h) (runs C Λ Locals parts.t-4 (atRet Locals Post))
     ends = first ! $ puts-config
 
-  module _ (C : Calls 𝓤 H) (Λ : Loops 𝓤 H) (fm : FmC 𝓤 H (W .laws) C) (known : Triple 𝓤 (C #host·run·run) (Run 𝓤 H A at-mem run)) where
-    walk : Is u32 n (vint w32 n ∷ []) → Is (ShrSlice (named 1) κ′ u8) s (v ∷ [])
-        → ent 𝓤 (onEntry 𝓤 H A f.signature (κ, (κ′, tt)) (q, (q′, tt)) x at) (WpFn 𝓤 H C Λ code.function (vptr b o ∷ vint w32 n ∷ v ∷ []) Post)
-    walk ok p =
-        qed W ((‵ (flft κ q) ⊛ ‵ (flft κ′ q′) ⊛ ‵ ftrue) ∷ ‵ (owns (MutRef (named 0) κ T.the-row ∷ u32 ∷ ShrSlice (named 1) κ′ u8 ∷ []) x at) ∷ []) ∵ split ! $
-        move ! (2 ∷ []) $ fsplit ! $ move ! (1 ∷ []) $ fsplit ! $ move ! (1 ∷ []) $ fsplit ! $ move ! (3 ∷ []) $ fsplit3 ! $ drop ! $ move ! (0 ∷ 1 ∷ 5 ∷ []) $
-        -- [obs; the borrow; its token; what the slice owns; true; what the number owns; the slice's token]
-        enter ! C Λ code.function (vptr b o ∷ vint w32 n ∷ v ∷ []) _ $
-        alloc1 ! (λ l₀. alloc1 ! (λ l₁. alloc1 ! (λ l₂. alloc1 ! (λ l₃. alloc1 ! (λ l₄. alloc1 ! (λ l₅. alloc1 ! (λ l₆. alloc0 ! $ params1 ! $ pass1 ! (init ! 10 refl (tt, tt)) $ pass1 ! (init ! 8 refl (tt, record { fits = ok .1 })) $
+  module _ (C : Calls 𝓤 H) (Λ : Loops 𝓤 H) (fm : FmC 𝓤 H (W .laws) C) (known : Triple 𝓤 (C #host·run·run-by) (Run 𝓤 H A at-mem run)) where
+    walk : Is u32 who (vint w32 who ∷ []) → Is u32 n (vint w32 n ∷ []) → Is (ShrSlice (named 1) κ′ u8) s (v ∷ [])
+        → ent 𝓤 (onEntry 𝓤 H A f.signature (κ, (κ′, tt)) (q, (q′, tt)) x at) (WpFn 𝓤 H C Λ code.function (vptr b o ∷ vint w32 who ∷ vint w32 n ∷ v ∷ []) Post)
+    walk ok₀ ok p =
+        qed W ((‵ (flft κ q) ⊛ ‵ (flft κ′ q′) ⊛ ‵ ftrue) ∷ ‵ (owns (MutRef (named 0) κ T.the-row ∷ u32 ∷ u32 ∷ ShrSlice (named 1) κ′ u8 ∷ []) x at) ∷ []) ∵ split ! $
+        move ! (2 ∷ []) $ fsplit ! $ move ! (1 ∷ []) $ fsplit ! $ move ! (1 ∷ []) $ fsplit ! $ move ! (1 ∷ []) $ fsplit ! $ move ! (4 ∷ []) $ fsplit3 ! $ drop ! $ move ! (0 ∷ 1 ∷ 6 ∷ []) $
+        -- [obs; the borrow; its token; what the slice owns; true; what the two numbers own; the slice's token]
+        enter ! C Λ code.function (vptr b o ∷ vint w32 who ∷ vint w32 n ∷ v ∷ []) _ $
+        alloc1 ! (λ l₀. alloc1 ! (λ l₁. alloc1 ! (λ l₂. alloc1 ! (λ l₃. alloc1 ! (λ l₄. alloc1 ! (λ l₅. alloc1 ! (λ l₆. alloc1 ! (λ l₇. alloc0 ! $ params1 ! $ pass1 ! (init ! 12 refl (tt, tt)) $ pass1 ! (init ! 10 refl (tt, record { fits = ok₀ .1 })) $ pass1 ! (init ! 8 refl (tt, record { fits = ok .1 })) $
         pass1 ! (init ! 6 refl (shr-slice-lawful 𝓤 H A W (named 1) κ′ u8 .typed s (v ∷ []) p .0)) $ pass0 ! $
-        move ! (14 ∷ 15 ∷ 16 ∷ []) $ opens ! tt T.the-row {h = h} b o (λ vs. spelt ! T.the-row (Is T.the-row) (shows 𝓤 H A T.the-row) (LL.vals T.the-type T′.the-laws) (LL.tells T.the-type T′.the-laws) fullShare h vs b o $
+        move ! (16 ∷ 17 ∷ 18 ∷ []) $ opens ! tt T.the-row {h = h} b o (λ vs. spelt ! T.the-row (Is T.the-row) (shows 𝓤 H A T.the-row) (LL.vals T.the-type T′.the-laws) (LL.tells T.the-type T′.the-laws) fullShare h vs b o $
         use1 W (‵ (fat fullShare T′.mir b o (mach h))) (W .laws .raw-at fullShare T′.mir b o (mach h)) $
         move ! (1 ∷ []) $ peeks ! T.the-row (Is T.the-row) (shows 𝓤 H A T.the-row) h (LL.vals T.the-type T′.the-laws h) (λ was. drop ! $
-        -- [the guidance's cell; the open borrow; obs; auth; _6; …; _5; …; _4; …; _3; …; _2; …; _1; …; room for _0; …; what the slice owns; true; what the number owns; the slice's token]
-        assigns ! (of-opd ! (load ! (from ! (hop ! (look ! 14 refl) (stop !))) (look-in ! 0 (whole !)))) (from ! (stop !)) (init ! 8 refl (LL.lawful T.the-type T′.the-laws 𝓤 H A W .typed h _ was .0)) $
-        move ! (18 ∷ []) $ use1 W (‵ Own ⊛ ‵ Own) (shr-slice-copy 𝓤 H A W (named 1) κ′ u8 .twice s (v ∷ [])) $ split ! $ move ! (0 ∷ 22 ∷ []) $
-        use2 W (raw (Run 𝓤 H A at-mem run .pre to-run)) (goes-run ok was) $
-        -- [what `run` asks; what the slice owns; the guidance's cell; the open borrow; obs; auth; _6; …]
-        calls-at ! fm (Run 𝓤 H A at-mem run) known to-run (and-then ! (load ! (from ! (stop !)) (look ! 10 refl)) (and-then ! (load ! (from ! (stop !)) (look ! 14 refl)) (and-then ! (load ! (from ! (stop !)) (look ! 12 refl)) (no-more !)))) (λ w.
-        use1 W (later (some (λ (r : Ran). ((‵ (flft κ′ q′) ⊛ ‵ ftrue) ⊛ ‵ (S.the-row .own r (w ∷ []))) ⊛ raw (ensured 𝓤 H A callee.ended (callee.clauses 𝓤 H A at-mem run) (κ′, tt) (h, (n, (s, tt))) tt r)))) (id⊢ 𝓤 _) $ await ! tt $ pick ! (λ r.
-        split ! $ move ! (1 ∷ []) $ use1 W (raw (fact 𝓤 (r ≡ runOf h n (now s)))) (ran-of r) $ heard ! (r ≡ runOf h n (now s)) (λ e. split ! $ move ! (1 ∷ []) $
-        -- [what the result owns; the slice's token; what the slice owns; the guidance's cell; the open borrow; obs; auth; _6; …]
+        -- [the guidance's cell; the open borrow; obs; auth; _7; …; _6; …; _5; …; _4; …; _3; …; _2; …; _1; …; room for _0; …; what the slice owns; true; what the two numbers own; the slice's token]
+        assigns ! (of-opd ! (load ! (from ! (hop ! (look ! 16 refl) (stop !))) (look-in ! 0 (whole !)))) (from ! (stop !)) (init ! 8 refl (LL.lawful T.the-type T′.the-laws 𝓤 H A W .typed h _ was .0)) $
+        move ! (20 ∷ []) $ use1 W (‵ Own ⊛ ‵ Own) (shr-slice-copy 𝓤 H A W (named 1) κ′ u8 .twice s (v ∷ [])) $ split ! $ move ! (0 ∷ 25 ∷ []) $
+        use2 W (raw (Run 𝓤 H A at-mem run .pre to-run)) (goes-run ok₀ ok was) $
+        -- [what `run_by` asks; what the slice owns; the guidance's cell; the open borrow; obs; auth; _7; …]
+        calls-at ! fm (Run 𝓤 H A at-mem run) known to-run (and-then ! (load ! (from ! (stop !)) (look ! 10 refl)) (and-then ! (load ! (from ! (stop !)) (look ! 16 refl)) (and-then ! (load ! (from ! (stop !)) (look ! 14 refl)) (and-then ! (load ! (from ! (stop !)) (look ! 12 refl)) (no-more !))))) (λ w.
+        use1 W (later (some (λ (r : Ran). ((‵ (flft κ′ q′) ⊛ ‵ ftrue) ⊛ ‵ (S.the-row .own r (w ∷ []))) ⊛ raw (ensured 𝓤 H A callee.ended (callee.clauses 𝓤 H A at-mem run) (κ′, tt) (h, (who, (n, (s, tt)))) tt r)))) (id⊢ 𝓤 _) $ await ! tt $ pick ! (λ r.
+        split ! $ move ! (1 ∷ []) $ use1 W (raw (fact 𝓤 (r ≡ runBy h who n (now s)))) (ran-of r) $ heard ! (r ≡ runBy h who n (now s)) (λ e. split ! $ move ! (1 ∷ []) $
+        -- [what the result owns; the slice's token; what the slice owns; the guidance's cell; the open borrow; obs; auth; _7; …]
         peeks ! S.the-row (Is S.the-row) (shows 𝓤 H A S.the-row) r (w ∷ []) (λ is₀.
         land ! (from ! (stop !)) (init ! 9 refl (LL.lawful S.the-type S′.the-laws 𝓤 H A W .typed r _ is₀ .0)) $
-        rewrite ! 9 (λ (u : Val). ‵ (fat fullShare S′.mir l₅ 0 u)) (ap only (LL.tells S.the-type S′.the-laws r _ is₀)) refl $
+        rewrite ! 9 (λ (u : Val). ‵ (fat fullShare S′.mir l₆ 0 u)) (ap only (LL.tells S.the-type S′.the-laws r _ is₀)) refl $
         rewrite ! 0 (λ (us : List Val). ‵ (S.the-row .own r us)) (LL.tells S.the-type S′.the-laws r _ is₀) refl $
         peeks ! S.the-row (Is S.the-row) (shows 𝓤 H A S.the-row) r (mach′ r ∷ []) (λ is. drop ! $
-        -- [the slice's token; what the slice owns; the guidance's cell; the open borrow; obs; auth; _6; …; _5; …; _4; …; _3; …; _2; …; _1; …; room for _0; …]
+        -- [the slice's token; what the slice owns; the guidance's cell; the open borrow; obs; auth; _7; …; _6; …; _5; …; _4; …; _3; …; _2; …; _1; …; room for _0; …]
         assigns ! (bin ! (load ! (from ! (stop !)) (look ! 14 refl)) (lit ! tt) tt) (from ! (stop !)) (init ! 6 refl (tt, tt)) $
-        keep ! twenty $ ends C Λ r ok is e l₀ l₁ l₂ l₃ l₄ l₅ l₆))))))))))))))
+        keep ! twenty-two $ ends C Λ r ok₀ ok is e l₀ l₁ l₂ l₃ l₄ l₅ l₆ l₇)))))))))))))))
 
 module _ {M : Type 1} (𝓤 : URA M) (H : Heap 𝓤) (A : Atoms 𝓤) (W : Given 𝓤 H A) (at-mem : Memory → SProp 𝓤) (run : Routine → Fun 𝓤) where
-  walks : (C : Calls 𝓤 H) (Λ : Loops 𝓤 H) → FmC 𝓤 H (W .laws) C → Triple 𝓤 (C #host·run·run) (Run 𝓤 H A at-mem run) → Walks 𝓤 H A f.ended stayed (WpFn 𝓤 H C Λ code.function) (f.clauses 𝓤 H A at-mem run)
-  walks C Λ fm known = walked 𝓤 H A f.ended stayed (f.clauses 𝓤 H A at-mem run) (WpFn 𝓤 H C Λ code.function) (λ κs. (ptr-vals, (uint-vals w32, (slice-vals, tt))))
-      (λ κs. (mut-tells (named 0) (κs .0) T.the-row, (uint-tells w32, (shr-slice-tells (named 1) (κs .1 .0) u8, tt))))
-      (λ κs qs bounds a _ are. via 𝓤 _ (fst∗ 𝓤 _ (emp 𝓤)) (walk 𝓤 H A W at-mem run (κs .0) (κs .1 .0) bounds (qs .0) (qs .1 .0) (a .0 .ptr .0) (a .0 .ptr .1) (a .0 .name) (a .0 .now) (a .1 .0) (a .1 .1 .0) C Λ fm known (are .1 .0) (are .1 .1 .0)))
+  walks : (C : Calls 𝓤 H) (Λ : Loops 𝓤 H) → FmC 𝓤 H (W .laws) C → Triple 𝓤 (C #host·run·run-by) (Run 𝓤 H A at-mem run) → Walks 𝓤 H A f.ended stayed (WpFn 𝓤 H C Λ code.function) (f.clauses 𝓤 H A at-mem run)
+  walks C Λ fm known = walked 𝓤 H A f.ended stayed (f.clauses 𝓤 H A at-mem run) (WpFn 𝓤 H C Λ code.function) (λ κs. (ptr-vals, (uint-vals w32, (uint-vals w32, (slice-vals, tt)))))
+      (λ κs. (mut-tells (named 0) (κs .0) T.the-row, (uint-tells w32, (uint-tells w32, (shr-slice-tells (named 1) (κs .1 .0) u8, tt)))))
+      (λ κs qs bounds a _ are. via 𝓤 _ (fst∗ 𝓤 _ (emp 𝓤)) (walk 𝓤 H A W at-mem run (κs .0) (κs .1 .0) bounds (qs .0) (qs .1 .0) (a .0 .ptr .0) (a .0 .ptr .1) (a .0 .name) (a .0 .now) (a .1 .0) (a .1 .1 .0) (a .1 .1 .1 .0) C Λ fm known (are .1 .0) (are .1 .1 .0) (are .1 .1 .1 .0)))
 
   goes : AllGo 𝓤 H A W 2 (f.signature .params) (f.ended .kept) stayed
-  goes = (goes-ref 𝓤 H A W 2 0 tt (plain (λ _. T.the-row)), (goes-none 𝓤 H A W 2 (λ _. u32) yes (λ κs x f. refl), (goes-none-slice 𝓤 H A W 2 (1 ∷ []) tt (plain (λ _. u8)) yes, tt)))
+  goes = (goes-ref 𝓤 H A W 2 0 tt (plain (λ _. T.the-row)), (goes-none 𝓤 H A W 2 (λ _. u32) yes (λ κs x f. refl), (goes-none 𝓤 H A W 2 (λ _. u32) yes (λ κs x f. refl), (goes-none-slice 𝓤 H A W 2 (1 ∷ []) tt (plain (λ _. u8)) yes, tt))))
 
-meets : {M : Type 1} (𝓤 : URA M) (H : Heap 𝓤) (A : Atoms 𝓤) → Given 𝓤 H A → (at-mem : Memory → SProp 𝓤) (run : Routine → Fun 𝓤) (𝓣 : Tables 𝓤 H) → Triple 𝓤 (𝓣 .C #host·run·run) (Run 𝓤 H A at-mem run)
+meets : {M : Type 1} (𝓤 : URA M) (H : Heap 𝓤) (A : Atoms 𝓤) → Given 𝓤 H A → (at-mem : Memory → SProp 𝓤) (run : Routine → Fun 𝓤) (𝓣 : Tables 𝓤 H) → Triple 𝓤 (𝓣 .C #host·run·run-by) (Run 𝓤 H A at-mem run)
     → Meets 𝓤 H A f.signature (WpFn 𝓤 H (𝓣 .C) (𝓣 .Λ) code.function) (f.spec 𝓤 H A at-mem run)
 meets 𝓤 H A W at-mem run 𝓣 known = walk-meets 𝓤 H A f.ended stayed W (goes 𝓤 H A W at-mem run) (f.clauses 𝓤 H A at-mem run) (WpFn 𝓤 H (𝓣 .C) (𝓣 .Λ) code.function) (WpFn-mono 𝓤 H (W .laws) 𝓣 code.function)
     (walks 𝓤 H A W at-mem run (𝓣 .C) (𝓣 .Λ) (fmOf 𝓤 H (W .laws) 𝓣) known)
@@ -272,4 +274,4 @@ nuthkolla-run-spec 𝓤 H 𝓜 𝓖 𝓡 =
     entered 𝓤 H (tripleOf 𝓤 H (𝓖 .A) f.signature (f.spec 𝓤 H (𝓖 .A) (𝓜 .mem) (𝓡 .run)))
     (tables 𝓤 H 𝓜 𝓡 code.env .C) (tables 𝓤 H 𝓜 𝓡 code.env .Λ) #host·run·nuthkolla-run code.function (code.unfolded 𝓤 H 𝓜 𝓡)
     (meets 𝓤 H (𝓖 .A) (givenOf 𝓤 H 𝓜 𝓖) (𝓜 .mem) (𝓡 .run) (tablesOf 𝓤 H 𝓜 (tables 𝓤 H 𝓜 𝓡 code.env))
-    (cited 𝓤 H (Run 𝓤 H (𝓖 .A) (𝓜 .mem) (𝓡 .run)) 𝓜 𝓡 code.env #host·run·run callee-def.routine code.calls-host·run·run (callee-thm.met 𝓤 H 𝓜 𝓖 𝓡)))
+    (cited 𝓤 H (Run 𝓤 H (𝓖 .A) (𝓜 .mem) (𝓡 .run)) 𝓜 𝓡 code.env #host·run·run-by callee-def.routine code.calls-host·run·run-by (callee-thm.met 𝓤 H 𝓜 𝓖 𝓡)))

@@ -1,23 +1,23 @@
 use borrow.Author.Tests.{eq-eqb, ne-eqb}
-use Rattle.host.specs.Run.{run}
-use Rattle.host.proofs.run.run.Statement.{statement}
-use Rattle.host.proofs.run.run.Tie as tie
+use Rattle.host.specs.code.Dispatch.{runOr}
+use Rattle.host.proofs.run.run_or.Statement.{statement}
+use Rattle.host.proofs.run.run_or.Tie as tie
 
 returns : tie.Need-returns
-unfolding run
+unfolding runOr
 returns c = rw (c .run-call .ensures, eq-eqb _ _ (c .before .if1 .taken))
 
 returns-2 : tie.Need-returns-2
-unfolding run
+unfolding runOr
 returns-2 c = rw (c .run-config .ensures, ne-eqb _ _ (c .before .before .if1 .left), eq-eqb _ _ (c .before .if2 .taken))
 
 returns-3 : tie.Need-returns-3
-unfolding run
+unfolding runOr
 returns-3 c =
     rw (c .run-new .ensures, ne-eqb _ _ (c .before .before .before .if1 .left), ne-eqb _ _ (c .before .before .if2 .left), eq-eqb _ _ (c .before .if3 .taken))
 
 returns-4 : tie.Need-returns-4
-unfolding run
+unfolding runOr
 returns-4 c =
     let d = c .before .before .before in
     rw (
@@ -29,7 +29,7 @@ returns-4 c =
     )
 
 returns-5 : tie.Need-returns-5
-unfolding run
+unfolding runOr
 returns-5 c =
     let d = c .before .before .before in
     rw (
@@ -40,5 +40,5 @@ returns-5 c =
       ne-eqb _ _ (c .before .if4 .left),
     )
 
-pub run-spec : {M : Type 1} → statement M
-run-spec = tie.close (tie.spec (λ c κs. tt) returns (λ c κs. tt) returns-2 (λ c κs. tt) returns-3 (λ c κs. tt) returns-4 (λ c κs. tt) returns-5)
+pub run-or-spec : {M : Type 1} → statement M
+run-or-spec = tie.close (tie.spec (λ c κs. tt) returns (λ c κs. tt) returns-2 (λ c κs. tt) returns-3 (λ c κs. tt) returns-4 (λ c κs. tt) returns-5)

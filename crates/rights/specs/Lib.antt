@@ -1,0 +1,2 @@
+-- Document 02, K9: who may do what.
+pub mod Rights
