@@ -1,0 +1,7 @@
+-- Laws of agreement.
+pub mod Same
+pub mod Story
+pub mod Meeting
+pub mod Whole
+pub mod Values
+pub mod LawsProof
