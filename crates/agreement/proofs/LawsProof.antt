@@ -161,7 +161,6 @@ one-story s t h =
     let values : valuesOfCalls (Left p) ≡ valuesOfCalls (Left q) = sym (values-are p) ∙ e .values ∙ values-are q in
     let left : Left p ≡ Left q =
     sym (left-is p) ∙ calls-eq s t (left-read p) (left-read q) (ap valuesOfCalls (left-is p) ∙ values ∙ sym (ap valuesOfCalls (left-is q))) ∙ left-is q in
-    let calls : Left p ≡ unmarked (marks (fresh (p .config)) (callsOf (q .calls))) (callsOf (q .calls)) = rw config left in
     let answers : unmarked (Marks p) (replies (fresh (p .config)) (callsOf (p .calls))) ≡ unmarked (Marks q) (replies (fresh (q .config)) (callsOf (q .calls))) =
     sym (answers-are p) ∙ (λ i. replies (fresh (config i)) (left i)) ∙ answers-are q in
     record {
@@ -170,8 +169,8 @@ one-story s t h =
       display-calls = q .calls;
       box-reads = p .reads;
       display-reads = rw config (q .reads);
-      calls = calls;
-      answers = rw config answers;
+      calls = left ∙ sym (ap (λ (c : PlaneGuidanceConfig). unmarked (marks (fresh c) (callsOf (q .calls))) (callsOf (q .calls))) config);
+      answers = answers ∙ sym (ap (λ (c : PlaneGuidanceConfig). unmarked (marks (fresh c) (callsOf (q .calls))) (replies (fresh c) (callsOf (q .calls)))) config);
     }
 
 reflexive : (s : List ℕ) → Read s → Agree s s
@@ -204,11 +203,13 @@ module _ (s : List ℕ) (n : ℕ) (h : compacted s (recording s) ≡ short.Lengt
 
   -- nothing more is struck
   left-same : Left short-sound ≡ Left from
+  unfolding unmarked claims.strikes callsOf short-sound from
   left-same =
       rw (shortened .remain, marks-again (from .config) (from .valid) (callsOf (from .calls)))
       (unmarked-none (Left from) (Left from) refl)
 
   short-agrees : Agree s T
+  unfolding from short-sound
   short-agrees = agrees s T (record {
     first = (n, h);
     second = (length T, shortened .again);

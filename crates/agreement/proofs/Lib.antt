@@ -1,5 +1,6 @@
 -- Laws of agreement.
 pub mod Same
+pub mod Parts
 pub mod Story
 pub mod Meeting
 pub mod Whole

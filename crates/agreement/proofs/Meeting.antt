@@ -1,6 +1,6 @@
 -- Two recordings' remaining calls side by side. Assumes nothing.
 use mathlib.Core.Path.{_≡_, refl, sym, ap, _∙_}
-use mathlib.Core.Bool.{Bool, true, false, cond}
+use mathlib.Core.Bool.{Bool, true, false, cond, not}
 use mathlib.Core.List.{List, [], _∷_}
 use Prim.Native.Nat.{ℕ, zero, suc, _+_, _-_, _<_, _≤_}
 use native.Mathlib.Omega.{arith}
@@ -45,42 +45,51 @@ part-both : (x y : Numbered) (xs ys : List Numbered)
 unfolding partCalls
 part-both x y xs ys = refl
 
--- what holds in each turn: the calls from here on part as those after the places of entry
-pub record Meeting (s : List ℕ) (a : Place) (t : List ℕ) (b : Place) (x y : Told) : Type 0 where
-  pub is : partCalls (toldFrom s x) (toldFrom t y) ≡ partCalls (told s a) (told t b)
+-- what holds in each turn: the calls from here on part as those from the first on
+pub record Meeting (s t : List ℕ) (x₀ y₀ x y : Told) : Type 0 where
+  pub is : partCalls (toldFrom s x) (toldFrom t y) ≡ partCalls (toldFrom s x₀) (toldFrom t y₀)
   pub most : number x ≤ mostCalls
 
 -- how many calls may still come
 abbrev pub left : Told → ℕ
 left r = cond (eqb (number r) 0) 0 (mostCalls + 1 - number r)
 
-pub meet-starts : (s : List ℕ) (a : Place) (t : List ℕ) (b : Place) (x y : Told) → Next s a x → Next t b y → Meeting s a t b x y
-meet-starts s a t b x y p q = record { is = rw (p .is, q .is); most = p .most }
+pub meet-starts : (s t : List ℕ) (a : Place) (x y : Told) → Next s a x → Meeting s t x y x y
+meet-starts s t a x y p = record { is = refl; most = p .most }
 
-module _ {s : List ℕ} {a : Place} {t : List ℕ} {b : Place} {x y : Told} (f : Meeting s a t b x y) where
-  pub meet-box : (number x ≡ 0 → ⊥) → number y ≡ 0 → answer.Part (number x) 0 ≡ partCalls (told s a) (told t b)
+-- the first calls are those after the places of entry
+pub from-places : {s t : List ℕ} {a b : Place} {x y : Told} → Next s a x → Next t b y → partCalls (toldFrom s x) (toldFrom t y) ≡ partCalls (told s a) (told t b)
+from-places p q = rw (p .is, q .is)
+
+module _ {s t : List ℕ} {x₀ y₀ x y : Told} (f : Meeting s t x₀ y₀ x y) where
+  abbrev All : Agreement
+  All = partCalls (toldFrom s x₀) (toldFrom t y₀)
+
+  pub meet-box : (number x ≡ 0 → ⊥) → number y ≡ 0 → answer.Part (number x) 0 ≡ All
   meet-box h e = sym (rw (from-one s x h, from-none t y e) (part-box (one x) (told s (x .place)))) ∙ f .is
 
-  pub meet-display : number x ≡ 0 → (number y ≡ 0 → ⊥) → answer.Part 0 (number y) ≡ partCalls (told s a) (told t b)
+  pub meet-display : number x ≡ 0 → (number y ≡ 0 → ⊥) → answer.Part 0 (number y) ≡ All
   meet-display e h = sym (rw (from-none s x e, from-one t y h) (part-display (one y) (told t (y .place)))) ∙ f .is
 
-  pub meet-ends : number x ≡ 0 → number y ≡ 0 → answer.Agree ≡ partCalls (told s a) (told t b)
+  pub meet-ends : number x ≡ 0 → number y ≡ 0 → answer.Agree ≡ All
   meet-ends e d = sym (rw (from-none s x e, from-none t y d) part-none) ∙ f .is
 
   both : (number x ≡ 0 → ⊥) → (number y ≡ 0 → ⊥)
-      → cond (sameList (callValues (x .call)) (callValues (y .call))) (partCalls (told s (x .place)) (told t (y .place))) (answer.Part (number x) (number y)) ≡ partCalls (told s a) (told t b)
+      → cond (sameList (callValues (x .call)) (callValues (y .call))) (partCalls (told s (x .place)) (told t (y .place))) (answer.Part (number x) (number y)) ≡ All
   both h k = sym (rw (from-one s x h, from-one t y k) (part-both (one x) (one y) (told s (x .place)) (told t (y .place)))) ∙ f .is
 
-  pub meet-parts : (number x ≡ 0 → ⊥) → (number y ≡ 0 → ⊥) → (r : Bool) → r ≡ sameList (callValues (x .call)) (callValues (y .call)) → r ≡ false
-      → answer.Part (number x) (number y) ≡ partCalls (told s a) (told t b)
-  meet-parts h k r e q = rw (sym e ∙ q) at (both h k)
+  pub meet-parts : (number x ≡ 0 → ⊥) → (number y ≡ 0 → ⊥) → (r : Bool) → r ≡ sameList (callValues (x .call)) (callValues (y .call)) → not r ≡ true
+      → answer.Part (number x) (number y) ≡ All
+  meet-parts h k true e q = let z : _≡_ {A = ℕ} 0 1 = cc in absurd (omega arith)
+  meet-parts h k false e q = rw (sym e) at (both h k)
 
-  pub meet-turn : (number x ≡ 0 → ⊥) → (number y ≡ 0 → ⊥) → (r : Bool) → r ≡ sameList (callValues (x .call)) (callValues (y .call)) → r ≡ true
-      → (v w : Told) → Next s (x .place) v → Next t (y .place) w → Meeting s a t b v w
-  meet-turn h k r e q v w p o = record {
-    is = sym (rw (p .is, o .is)) ∙ (rw (sym e ∙ q) at (both h k));
+  pub meet-turn : (number x ≡ 0 → ⊥) → (number y ≡ 0 → ⊥) → (r : Bool) → r ≡ sameList (callValues (x .call)) (callValues (y .call)) → not r ≡ false
+      → (v w : Told) → Next s (x .place) v → Next t (y .place) w → Meeting s t x₀ y₀ v w
+  meet-turn h k true e q v w p o = record {
+    is = from-places p o ∙ (rw (sym e) at (both h k));
     most = p .most;
   }
+  meet-turn h k false e q v w p o = let z : _≡_ {A = ℕ} 0 1 = cc in absurd (omega arith)
 
   pub meet-less : (number x ≡ 0 → ⊥) → (v : Told) → Next s (x .place) v → left v < left x
   meet-less h v p = go (eqb (number v) 0) refl

@@ -4,6 +4,7 @@ use mathlib.Core.Bool.{Bool, true, false, cond, not, _&&_, _||_}
 use mathlib.Core.List.{List, [], _∷_, _++_}
 use Prim.Native.Nat.{ℕ, zero, suc, _+_, _-_, _*_, _<_, _≤_}
 use native.Mathlib.Omega.{arith}
+use native.Mathlib.Numerals.{add-one}
 use borrow.Author.Tests.{eq-eqb, ne-eqb, eqb-true}
 use lib.Dec.{eqb}
 use lib.ListN.{length, drop, getD, replicate, drop-of-length-le}
@@ -70,13 +71,14 @@ module _ {a b : List ℕ} {i : ℕ} (f : Holding a b i) where
   unfolding sameList
   heads h = rw (drop-cons a i 0 h, drop-cons b i 0 (omega (arith, f .long)))
 
-  pub hold-turn : i < length a → getD a i 0 ≡ getD b i 0 → Holding a b (suc i)
-  hold-turn h e = record { long = f .long; below = omega arith; is = sym (rw (eq-eqb _ _ e) at (heads h)) ∙ f .is }
+  pub hold-turn : i < length a → getD a i 0 ≡ getD b i 0 → Holding a b (i + 1)
+  hold-turn h e = record { long = f .long; below = omega arith; is = rw (add-one i) (sym (rw (eq-eqb _ _ e) at (heads h)) ∙ f .is) }
 
   pub hold-differs : i < length a → (getD a i 0 ≡ getD b i 0 → ⊥) → false ≡ sameList a b
   hold-differs h e = sym (rw (ne-eqb _ _ e) at (heads h)) ∙ f .is
 
   pub hold-done : length a ≤ i → true ≡ sameList a b
   hold-done h =
-      let none : sameList (drop i a) (drop i b) ≡ true = rw (drop-of-length-le a h, drop-of-length-le b (omega (arith, f .long))) (same-refl []) in
+      let over : drop i b ≡ [] = drop-of-length-le b {i = i} (omega (arith, f .long)) in
+      let none : sameList (drop i a) (drop i b) ≡ true = rw (drop-of-length-le a h, over) (same-refl []) in
       sym none ∙ f .is

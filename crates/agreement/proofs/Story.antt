@@ -95,6 +95,14 @@ from-one : (s : List ℕ) (c : Call) (p : Place) → 0 < p .number → toldFrom 
 unfolding toldFrom
 from-one s c p h = rw (ne-eqb (p .number) 0 (λ (e : p .number ≡ 0). omega arith))
 
+stays-struck : (b : Bool) → not b ≡ false → b ≡ true
+stays-struck true q = refl
+stays-struck false q = sym q
+
+not-struck : (b : Bool) → not b ≡ true → b ≡ false
+not-struck true q = sym q
+not-struck false q = refl
+
 module _ {s : List ℕ} {p : Place} {g : PlaneGuidance} {at : ℕ} {fell : Bool} {n : ℕ} (f : Seeking s p g at fell n) where
   -- no call remains
   seek-none : told s (place g at fell n) ≡ [] → Next s p (record { call = Prime; place = place g at fell 0 })
@@ -127,12 +135,12 @@ module _ {s : List ℕ} {p : Place} {g : PlaneGuidance} {at : ℕ} {fell : Bool}
     more : told s p ≡ (let rest = told s (place (done .guidance) next (j .fell) (n + 1)) in cond (j .struck) rest (record { number = n + 1; call = c } ∷ rest))
     more = f .is ∙ rw (is-judged, next-is) (told-more s g at fell n c next h l e)
 
-    pub seek-turn : j .struck ≡ true → Seeking s p (done .guidance) next (j .fell) (n + 1)
-    seek-turn q = record { is = rw q at more; above = omega (arith, f .above) }
+    pub seek-turn : not (j .struck) ≡ false → Seeking s p (done .guidance) next (j .fell) (n + 1)
+    seek-turn q = record { is = rw (stays-struck (j .struck) q) at more; above = omega (arith, f .above) }
 
-    pub seek-found : j .struck ≡ false → Next s p (record { call = c; place = place (done .guidance) next (j .fell) (n + 1) })
+    pub seek-found : not (j .struck) ≡ true → Next s p (record { call = c; place = place (done .guidance) next (j .fell) (n + 1) })
     seek-found q = record {
-      is = (rw q at more) ∙ sym (from-one s c (place (done .guidance) next (j .fell) (n + 1)) (omega arith));
+      is = (rw (not-struck (j .struck) q) at more) ∙ sym (from-one s c (place (done .guidance) next (j .fell) (n + 1)) (omega arith));
       most = omega arith;
       rises = λ (z : n + 1 ≡ 0 → ⊥). omega (arith, f .above);
     }

@@ -31,13 +31,18 @@ use Rattle.agreement.specs.Agreement.{configValues, callValues, Numbered
 -- ---- one configuration, one call
 
 -- a record is made of the values
-config-record : (c : PlaneGuidanceConfig) → let v = configValues c in let m = mapOf configFields (replicate 33 0) v in configRecord c ≡ bytesOf 5 m ++ bodyOf configFields m v
+abbrev configBytes : List ℕ → List ℕ
+configBytes v =
+    let m = mapOf configFields (replicate 33 0) v in
+    bytesOf 5 m ++ bodyOf configFields m v
+
+config-record : (c : PlaneGuidanceConfig) → configRecord c ≡ configBytes (configValues c)
 unfolding configRecord configMap configValues
 config-record c = refl
 
 pub config-eq : (s t : List ℕ) (c d : PlaneGuidanceConfig) (m n : ℕ) → readConfig s 0 ≡ config.Read c m → readConfig t 0 ≡ config.Read d n → configValues c ≡ configValues d → c ≡ d
 config-eq s t c d m n p q e =
-    let records : configRecord c ≡ configRecord d = config-record c ∙ rw e ∙ sym (config-record d) in
+    let records : configRecord c ≡ configRecord d = config-record c ∙ ap configBytes e ∙ sym (config-record d) in
     let a : readConfig (configRecord c) 0 ≡ config.Read c (length (configRecord c)) = config-laws .again s 0 c m p .1 in
     let b : readConfig (configRecord d) 0 ≡ config.Read d (length (configRecord d)) = config-laws .again t 0 d n q .1 in
     let z : config.Read c (length (configRecord c)) ≡ config.Read d (length (configRecord d)) = sym a ∙ ap (λ (l : List ℕ). readConfig l 0) records ∙ b in
@@ -63,19 +68,18 @@ values-rest (AbsoluteAttitude r dt c) = refl
 values-rest (Land r dt) = refl
 values-rest (AbsoluteRate r dt c) = refl
 
--- what a record is made of, from values
-abbrev recordOf : List ℕ → List ℕ
-recordOf v =
+abbrev callBytes : List ℕ → List ℕ
+callBytes v =
     let m = mapOf callFields (1 ∷ 0 ∷ drop 22 v) (take 22 v) in
     bytesOf 4 m ++ bodyOf callFields m (take 22 v)
 
-call-record : (k : Call) → callRecord k ≡ recordOf (callValues k)
+call-record : (k : Call) → callRecord k ≡ callBytes (callValues k)
 unfolding callRecord mapOfParts
 call-record k = rw (values-front k, values-rest k)
 
 pub call-eq : (s t : List ℕ) (a b : ℕ) (c d : Call) (m n : ℕ) → readCall s a ≡ read.Read c m → readCall t b ≡ read.Read d n → callValues c ≡ callValues d → c ≡ d
 call-eq s t a b c d m n p q e =
-    let records : callRecord c ≡ callRecord d = call-record c ∙ ap recordOf e ∙ sym (call-record d) in
+    let records : callRecord c ≡ callRecord d = call-record c ∙ ap callBytes e ∙ sym (call-record d) in
     let x : readCall (callRecord c) 0 ≡ read.Read c (length (callRecord c)) = call-laws .again s a c m p .1 in
     let y : readCall (callRecord d) 0 ≡ read.Read d (length (callRecord d)) = call-laws .again t b d n q .1 in
     let z : read.Read c (length (callRecord c)) ≡ read.Read d (length (callRecord d)) = sym x ∙ ap (λ (l : List ℕ). readCall l 0) records ∙ y in
@@ -126,9 +130,9 @@ numbered-values (false ∷ ms) n (k ∷ ks) = rw (call-back (k .call)) (ap (λ (
 pub calls-eq : (s t : List ℕ) {ks ls : List Recorded} → AllRead s ks → AllRead t ls → valuesOfCalls (callsOf ks) ≡ valuesOfCalls (callsOf ls) → callsOf ks ≡ callsOf ls
 unfolding callsOf valuesOfCalls
 calls-eq s t none none e = refl
-calls-eq s t none (one {l} {ls} r b) e = let z : _≡_ {A = ℕ} 0 1 = cc in absurd (omega arith)
+calls-eq s t none (one {k} {ks} r b) e = let z : _≡_ {A = ℕ} 0 1 = cc in absurd (omega arith)
 calls-eq s t (one {k} {ks} r a) none e = let z : _≡_ {A = ℕ} 0 1 = cc in absurd (omega arith)
-calls-eq s t (one {k} {ks} r a) (one {l} {ls} q b) e =
+calls-eq s t (one {k} {ks} r a) (one {k = l} {ks = ls} q b) e =
     let head : callValues (recordCall (callOf (k .call))) ≡ callValues (recordCall (callOf (l .call))) = cc in
     let tail : valuesOfCalls (callsOf ks) ≡ valuesOfCalls (callsOf ls) = cc in
     let same : k .call ≡ l .call = call-eq s t (k .place) (l .place) (k .call) (l .call) (r .next) (q .next) (r .is) (q .is) (rw (call-back (k .call), call-back (l .call)) at head) in

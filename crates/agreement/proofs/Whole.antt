@@ -1,8 +1,9 @@
 -- The answer of the two passes is the definition's. Assumes nothing.
 use mathlib.Core.Path.{_≡_, refl, sym, ap, _∙_}
-use mathlib.Core.Bool.{Bool, true, false, cond}
+use mathlib.Core.Bool.{Bool, true, false, cond, not}
 use mathlib.Core.List.{List, [], _∷_}
 use Prim.Native.Nat.{ℕ, _+_, _-_}
+use native.Mathlib.Omega.{arith}
 use lib.Dec.{eqb}
 use lib.ListN.{length}
 use Rattle.laws.specs.declared.config.PlaneGuidanceConfig.{PlaneGuidanceConfig}
@@ -44,6 +45,20 @@ module _ {s : List ℕ} {g : PlaneGuidance} {next : ℕ} (o : Opening s g next) 
 parted-is : (s t : List ℕ) {g : PlaneGuidance} {a : ℕ} {h : PlaneGuidance} {b : ℕ} → Opening s g a → Opening t h b → step.parted s g a t h b ≡ parted (recording s) (recording t)
 unfolding step.parted parted
 parted-is s t o p = rw (settings-are o, settings-are p, calls-are o, calls-are p)
+
+-- ---- `part`
+
+module _ (s : List ℕ) (g : PlaneGuidance) (at : ℕ) (t : List ℕ) (h : PlaneGuidance) (place : ℕ) where
+  pub parted-differs : (r : Bool) → r ≡ sameList (configValues (g .config)) (configValues (h .config)) → not r ≡ true → answer.Part 0 0 ≡ step.parted s g at t h place
+  unfolding step.parted
+  parted-differs true e q = let z : _≡_ {A = ℕ} 0 1 = cc in absurd (omega arith)
+  parted-differs false e q = rw (← e)
+
+  pub parted-same : (r : Bool) → r ≡ sameList (configValues (g .config)) (configValues (h .config)) → not r ≡ false
+      → (x : Agreement) → x ≡ partCalls (told s (start g at)) (told t (start h place)) → x ≡ step.parted s g at t h place
+  unfolding step.parted
+  parted-same true e q x p = rw (← e) p
+  parted-same false e q x p = let z : _≡_ {A = ℕ} 0 1 = cc in absurd (omega arith)
 
 -- ---- the display's, then the box's
 

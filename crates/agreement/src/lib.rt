@@ -230,7 +230,14 @@ fn start(g: PlaneGuidance, at: usize) -> Place
 }
 
 // Two recordings that can be read.
-fn part(s: &[u8], g: PlaneGuidance, at: usize, t: &[u8], h: PlaneGuidance, place: usize) -> Agreement
+fn part(
+    s: &[u8],
+    g: PlaneGuidance,
+    at: usize,
+    t: &[u8],
+    h: PlaneGuidance,
+    place: usize,
+) -> Agreement
     ensures { λ r. ⌜ r ≡ step.parted (now (s .entry)) g at (now (t .entry)) h place ⌝ }
 {
     let c = g.config;
