@@ -70,9 +70,9 @@ fn agreed_of(answer: Agreement) -> Agreed
 }
 
 #[no_mangle]
-pub extern "C" fn nuthkolla_agree(box_bytes: &[u8], display_bytes: &[u8]) -> Agreed
-    ensures { λ r. ⌜ r ≡ spec.agreedOf (agreement (now (box_bytes .entry)) (now (display_bytes .entry))) ⌝ }
+pub extern "C" fn nuthkolla_agree(s: &[u8], t: &[u8]) -> Agreed
+    ensures { λ r. ⌜ r ≡ spec.agreedOf (agreement (now (s .entry)) (now (t .entry))) ⌝ }
 {
-    let answer = agree(box_bytes, display_bytes);
+    let answer = agree(s, t);
     agreed_of(answer)
 }
