@@ -113,14 +113,14 @@ fn same_call(c: Call, d: Call) -> bool
 
 // ---- one recording's remaining calls
 
-// The next call that is not struck.
-fn next_call(s: &[u8], from: Place) -> Told
-    ensures { λ r. ⌜ Next (now (s .entry)) from r ⌝ }
+// The next call that is not struck, after another.
+fn next_call(s: &[u8], last: Told) -> Told
+    ensures { λ r. ⌜ Next (now (s .entry)) (last .place) r ⌝ }
 {
-    let mut g = from.guidance;
-    let mut at = from.at;
-    let mut fell = from.fell;
-    let mut n = from.number;
+    let mut g = last.place.guidance;
+    let mut at = last.place.at;
+    let mut fell = last.place.fell;
+    let mut n = last.place.number;
     while n < MOST_CALLS {
         if s.len() <= at {
             return Told {
@@ -187,8 +187,20 @@ fn next_call(s: &[u8], from: Place) -> Told
 fn part_calls(s: &[u8], a: Place, t: &[u8], b: Place) -> Agreement
     ensures { λ r. ⌜ r ≡ spec.partCalls (step.told (now (s .entry)) a) (step.told (now (t .entry)) b) ⌝ }
 {
-    let mut x = next_call(s, a);
-    let mut y = next_call(t, b);
+    let mut x = next_call(
+        s,
+        Told {
+            call: Call::Prime,
+            place: a,
+        },
+    );
+    let mut y = next_call(
+        t,
+        Told {
+            call: Call::Prime,
+            place: b,
+        },
+    );
     while x.place.number != 0 {
         if y.place.number == 0 {
             return Agreement::Part {
@@ -204,10 +216,8 @@ fn part_calls(s: &[u8], a: Place, t: &[u8], b: Place) -> Agreement
                 display_call: y.place.number,
             };
         }
-        let after = x.place;
-        let beyond = y.place;
-        x = next_call(s, after);
-        y = next_call(t, beyond);
+        x = next_call(s, x);
+        y = next_call(t, y);
     }
     if y.place.number == 0 {
         return Agreement::Agree;

@@ -36,10 +36,10 @@ next-call-requires-4 : tie.Need-next-call-requires-4 Inv-loop μ-loop
 next-call-requires-4 c κs = search needs
 
 loop-less : tie.Need-loop-less Inv-loop μ-loop
-loop-less c = meet-less (c .before .before .before .before .before .before .before .before .before .before .loop .inv) (c .before .before .before .before .before .before .before .before .if1 .taken) _ (c .before .next-call3 .ensures)
+loop-less c = meet-less (c .before .before .before .before .before .before .before .before .loop .inv) (c .before .before .before .before .before .before .if1 .taken) _ (c .before .next-call3 .ensures)
 
 loop-again : tie.Need-loop-again Inv-loop μ-loop
-loop-again c = meet-turn (c .before .before .before .before .before .before .before .before .before .before .loop .inv) (c .before .before .before .before .before .before .before .before .if1 .taken) (c .before .before .before .before .before .before .if2 .left) _ (c .before .before .before .before .before .same-call .ensures) (c .before .before .before .before .if3 .left) _ _ (c .before .next-call3 .ensures) (c .next-call4 .ensures)
+loop-again c = meet-turn (c .before .before .before .before .before .before .before .before .loop .inv) (c .before .before .before .before .before .before .if1 .taken) (c .before .before .before .before .if2 .left) _ (c .before .before .before .same-call .ensures) (c .before .before .if3 .left) _ _ (c .before .next-call3 .ensures) (c .next-call4 .ensures)
 
 returns-3 : tie.Need-returns-3 Inv-loop μ-loop
 returns-3 c = meet-ends (c .before .before .before .before .loop .inv) (c .before .before .if1 .left) (c .if4 .taken) ∙ from-places (c .before .before .before .before .before .before .next-call .ensures) (c .before .before .before .before .before .next-call2 .ensures)
