@@ -342,6 +342,24 @@ typedef struct nuthkolla_compaction {
  * refused is kept: the refusal is the first that the desk program would meet. */
 nuthkolla_compaction nuthkolla_compact(uint8_t *bytes, size_t length);
 
+/* Whose recording was refused. */
+enum { NUTHKOLLA_BOX = 1, NUTHKOLLA_DISPLAY = 2 };
+
+typedef struct nuthkolla_agreed {
+    uint32_t agree;        /* 1: they tell one story; else 0 */
+    uint32_t box_call;     /* where they part: the number, from 1, of the first remaining call at which call values part, in the box's */
+    uint32_t display_call; /* and in the display's; 0 in both: the configurations part; 0 in one: no such call is left in it */
+    uint32_t whose;        /* 0, or whose recording was refused; all above is then 0 */
+    uint32_t refusal;      /* what refused it: refusal, field and call as nuthkolla_compact would give them */
+    uint32_t field;
+    uint32_t call;
+} nuthkolla_agreed;
+
+/* Holds the box's recording and the display's together, each without the calls that nuthkolla_compact would drop. Configurations and
+ * call values are held equal as bits, every NaN alike, whatever map spelled them. Where both are refused, the box's refusal is given.
+ * Of recordings that agree the remaining calls have equal answers in both replays. */
+nuthkolla_agreed nuthkolla_agree(const uint8_t *box_bytes, size_t box_length, const uint8_t *display_bytes, size_t display_length);
+
 /* ---- the turn to come */
 
 enum { NUTHKOLLA_PATH_STEPS = 600 };

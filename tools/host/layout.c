@@ -128,6 +128,14 @@ int main(void)
     AT(nuthkolla_compaction, field);
     AT(nuthkolla_compaction, call);
     AT(nuthkolla_compaction, length);
+    SIZE(nuthkolla_agreed);
+    AT(nuthkolla_agreed, agree);
+    AT(nuthkolla_agreed, box_call);
+    AT(nuthkolla_agreed, display_call);
+    AT(nuthkolla_agreed, whose);
+    AT(nuthkolla_agreed, refusal);
+    AT(nuthkolla_agreed, field);
+    AT(nuthkolla_agreed, call);
     SIZE(nuthkolla_path);
     AT(nuthkolla_path, refusal);
     AT(nuthkolla_path, reason);
@@ -150,5 +158,7 @@ int main(void)
     NUMBER(NUTHKOLLA_ROUTE_BYTES);
     NUMBER(NUTHKOLLA_ROUTE_NUMBERS);
     NUMBER(NUTHKOLLA_PATH_STEPS);
+    NUMBER(NUTHKOLLA_BOX);
+    NUMBER(NUTHKOLLA_DISPLAY);
     return 0;
 }

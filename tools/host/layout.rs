@@ -144,6 +144,14 @@ fn main() {
     at!("nuthkolla_compaction.field", ffi::Compaction, field);
     at!("nuthkolla_compaction.call", ffi::Compaction, call);
     at!("nuthkolla_compaction.length", ffi::Compaction, length);
+    size!("nuthkolla_agreed", ffi::Agreed);
+    at!("nuthkolla_agreed.agree", ffi::Agreed, agree);
+    at!("nuthkolla_agreed.box_call", ffi::Agreed, box_call);
+    at!("nuthkolla_agreed.display_call", ffi::Agreed, display_call);
+    at!("nuthkolla_agreed.whose", ffi::Agreed, whose);
+    at!("nuthkolla_agreed.refusal", ffi::Agreed, refusal);
+    at!("nuthkolla_agreed.field", ffi::Agreed, field);
+    at!("nuthkolla_agreed.call", ffi::Agreed, call);
     size!("nuthkolla_path", ffi::Path);
     at!("nuthkolla_path.refusal", ffi::Path, refusal);
     at!("nuthkolla_path.reason", ffi::Path, reason);
@@ -166,4 +174,6 @@ fn main() {
     println!("NUTHKOLLA_ROUTE_BYTES {}", ROUTE_BYTES);
     println!("NUTHKOLLA_ROUTE_NUMBERS {}", ROUTE_NUMBERS);
     println!("NUTHKOLLA_PATH_STEPS {}", PATH_STEPS);
+    println!("NUTHKOLLA_BOX {}", ffi::BOX);
+    println!("NUTHKOLLA_DISPLAY {}", ffi::DISPLAY);
 }

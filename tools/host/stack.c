@@ -1,5 +1,5 @@
-/* The greatest stack use of nuthkolla_run over a recording: each call runs on a stack of its own whose bytes were set before,
- * and the bytes that changed are counted, less those of a call that does nothing.
+/* The greatest stack use of nuthkolla_run over a recording, and of nuthkolla_agree of it and itself: each call runs on a stack of its
+ * own whose bytes were set before, and the bytes that changed are counted, less those of a call that does nothing.
  *     stack < RECORDING */
 #define _GNU_SOURCE
 #include "nuthkolla.h"
@@ -20,6 +20,7 @@ static size_t place, length;
 
 static void nothing(void) {}
 static void call(void) { answer = nuthkolla_run(&guidance, NUTHKOLLA_SKIPPER, what, input + place, length - place); }
+static void hold(void) { nuthkolla_agree(input, length, input, length); }
 
 static size_t used(void (*what_runs)(void))
 {
@@ -48,6 +49,7 @@ int main(void)
         size_t n = used(call) - idle;
         most_call = n > most_call ? n : most_call;
     }
-    printf("greatest stack use: %zu bytes of a call, %zu of a configuration\n", most_call, most_new);
+    printf("greatest stack use: %zu bytes of a call, %zu of a configuration, %zu of two recordings held together\n", most_call, most_new,
+           used(hold) - idle);
     return 0;
 }

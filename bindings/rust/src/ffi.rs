@@ -120,6 +120,21 @@ pub struct Compaction {
 
 #[repr(C)]
 #[derive(Clone, Copy, Debug)]
+pub struct Agreed {
+    pub agree: u32,
+    pub box_call: u32,
+    pub display_call: u32,
+    pub whose: u32,
+    pub refusal: u32,
+    pub field: u32,
+    pub call: u32,
+}
+
+pub const BOX: u32 = 1;
+pub const DISPLAY: u32 = 2;
+
+#[repr(C)]
+#[derive(Clone, Copy, Debug)]
 pub struct RouteAnswer {
     pub answer: Answer,
     pub number: u32,
@@ -167,6 +182,7 @@ extern "C" {
         count: usize,
     ) -> Place;
     pub fn nuthkolla_compact(bytes: *mut u8, length: usize) -> Compaction;
+    pub fn nuthkolla_agree(of_box: *const u8, box_length: usize, of_display: *const u8, display_length: usize) -> Agreed;
     pub fn nuthkolla_draw_path(guidance: Guidance, call: Call, steps: usize, out: *mut f32, length: usize) -> Path;
     pub fn nuthkolla_default_config() -> crate::PlaneGuidanceConfig;
     pub fn nuthkolla_validate(config: crate::PlaneGuidanceConfig) -> u32;

@@ -499,13 +499,61 @@ pub struct RecordingRefused {
 pub fn compact(bytes: &mut [u8]) -> Result<usize, RecordingRefused> {
     // Safety: the buffer is borrowed for the call.
     let done = unsafe { ffi::nuthkolla_compact(bytes.as_mut_ptr(), bytes.len()) };
-    let refused = |refusal| RecordingRefused { refusal, call: done.call };
-    if done.refusal == 1 {
-        let (config, _) = read_config(bytes, 0).map_err(refused)?;
-        return Err(refused(Refusal::Config(InvalidConfig::of(done.field, &config))));
-    }
-    Refusal::of(done.refusal).map_err(refused)?;
+    judged(bytes, done.refusal, done.field, done.call)?;
     Ok(done.length)
+}
+
+/// What refused a recording: refusal 1 with its field's name and value.
+fn judged(bytes: &[u8], refusal: u32, field: u32, call: u32) -> Result<(), RecordingRefused> {
+    let refused = |refusal| RecordingRefused { refusal, call };
+    if refusal == 1 {
+        let (config, _) = read_config(bytes, 0).map_err(refused)?;
+        return Err(refused(Refusal::Config(InvalidConfig::of(field, &config))));
+    }
+    Refusal::of(refusal).map_err(refused)
+}
+
+/// What two recordings of one flight tell.
+#[derive(Clone, Copy, Debug, PartialEq)]
+pub enum Agreement {
+    /// One story: the remaining calls have equal answers in both replays.
+    Agree,
+    /// The first remaining call in each at which call values part, counted from 1 in the recording as it is: 0 in both if the
+    /// configurations part, 0 in one that has no such call left.
+    Part { box_call: u32, display_call: u32 },
+}
+
+/// Which of two recordings was refused.
+#[derive(Clone, Copy, Debug, PartialEq)]
+pub enum End {
+    Box,
+    Display,
+}
+
+/// Holds the box's recording and the display's together, each without the calls that [`compact`] would drop. Values are held
+/// equal as bits, every NaN alike, whatever map spelled them.
+///
+/// # Errors
+///
+/// Whose recording [`compact`] would refuse, the box's first, and by what.
+///
+/// ```
+/// use nuthkolla::{agree, Agreement};
+/// let (configuration, land) = ([0; 5], [5, 0, 0, 0, 5, 0, 0, 128, 63]);
+/// let of_box = [&configuration[..], &land, &land].concat();
+/// let of_display = [&configuration[..], &land].concat();
+/// assert_eq!(agree(&of_box, &of_box), Ok(Agreement::Agree));
+/// assert_eq!(agree(&of_box, &of_display), Ok(Agreement::Part { box_call: 2, display_call: 0 }));
+/// ```
+pub fn agree(of_box: &[u8], of_display: &[u8]) -> Result<Agreement, (End, RecordingRefused)> {
+    // Safety: both recordings are borrowed for the call.
+    let found = unsafe { ffi::nuthkolla_agree(of_box.as_ptr(), of_box.len(), of_display.as_ptr(), of_display.len()) };
+    let (end, bytes) = if found.whose == ffi::DISPLAY { (End::Display, of_display) } else { (End::Box, of_box) };
+    judged(bytes, found.refusal, found.field, found.call).map_err(|refused| (end, refused))?;
+    if found.agree == 1 {
+        return Ok(Agreement::Agree);
+    }
+    Ok(Agreement::Part { box_call: found.box_call, display_call: found.display_call })
 }
 
 fn numbers_of(call: &Call) -> ffi::Call {

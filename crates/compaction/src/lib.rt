@@ -34,9 +34,9 @@ pub enum Compacted {
 const MOST_CALLS: u32 = 4096;
 
 // Whether a call is struck, and whether the last accepted guide or prime call, after it, was a fallback.
-struct Judged {
-    struck: bool,
-    fell: bool,
+pub struct Judged {
+    pub struck: bool,
+    pub fell: bool,
 }
 
 // Where reading stopped: the number of the call that could not be read with its refusal, or 0 for the end.
@@ -45,7 +45,8 @@ struct Scanned {
     refusal: u32,
 }
 
-enum Decided {
+// What the first pass decides: the guidance to start with and the place of the first call, or the refusal.
+pub enum Decided {
     Sound {
         guidance: PlaneGuidance,
         next: usize,
@@ -113,7 +114,7 @@ fn decide_calls(s: &[u8], g: PlaneGuidance, next: usize) -> Decided
     }
 }
 
-fn decide(s: &[u8]) -> Decided
+pub fn decide(s: &[u8]) -> Decided
     ensures { λ r. ⌜ r ≡ step.decided (now (s .entry)) ⌝ }
 {
     let read = read_config(s, 0);
@@ -173,7 +174,7 @@ fn judge_answer(before: bool, answer: Answer) -> Judged
     }
 }
 
-fn judge(before: bool, reply: Reply) -> Judged
+pub fn judge(before: bool, reply: Reply) -> Judged
     ensures { λ r. ⌜ r ≡ step.judged before (asReply reply) ⌝ }
 {
     match reply {

@@ -1,4 +1,4 @@
-// A recording from standard input: as many bytes as decide what the programs answer.
+// A recording from standard input, or from another descriptor: as many bytes as decide what the programs answer.
 ghost use mathlib.Core.Path.{_≡_};
 ghost use lib.ListN.{length};
 ghost use Rattle.io.specs.Counts.{Counts};
@@ -22,13 +22,19 @@ pub fn input_room() -> [u8; INPUT_ROOM]
     [0u8; INPUT_ROOM]
 }
 
-// Reads until the input ends, the buffer is full or a read fails.
 pub fn read_input(buffer: &mut [u8]) -> Input
+    ensures { λ r. ⌜ Counts (r .size) (now (buffer .exit)) ⌝ }
+{
+    read_from(STANDARD_INPUT, buffer)
+}
+
+// Reads until the input ends, the buffer is full or a read fails.
+pub fn read_from(descriptor: i32, buffer: &mut [u8]) -> Input
     ensures { λ r. ⌜ Counts (r .size) (now (buffer .exit)) ⌝ }
 {
     let mut size: usize = 0;
     while size < buffer.len() {
-        let got = libc::read(STANDARD_INPUT, &mut buffer[size..]);
+        let got = libc::read(descriptor, &mut buffer[size..]);
         if got < 0 {
             return Input { size, failed: true };
         }

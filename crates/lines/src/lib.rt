@@ -101,7 +101,7 @@ fn width(n: u32) -> usize
     k
 }
 
-fn put_decimal(part: &mut [u8], n: u32) -> usize
+pub fn put_decimal(part: &mut [u8], n: u32) -> usize
     requires { ⌜ length (decimal n) ≤ length (now part) ⌝ }
     ensures { λ r. ⌜ Puts (decimal n) (now (part .entry)) (now (part .exit)) r ⌝ }
 {

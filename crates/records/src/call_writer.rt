@@ -159,7 +159,7 @@ fn waypoint_parts(regime: u8, dt: f32, c: WaypointCommand, s: VehicleState, cap:
     }
 }
 
-fn parts_of(call: Call) -> Parts
+pub fn parts_of(call: Call) -> Parts
     ensures { λ r. ⌜ r ≡ spec.partsOf call ⌝ }
 {
     match call {
@@ -238,7 +238,7 @@ fn parts_of(call: Call) -> Parts
 }
 
 // The bits of 20 numbers.
-fn bits_of(v: [f32; 20]) -> [u32; 20]
+pub fn bits_of(v: [f32; 20]) -> [u32; 20]
     ensures { λ r. ⌜ r ≡ bitsOf v ⌝ }
 {
     let mut b = [0u32; 20];

@@ -1,5 +1,6 @@
 //! Document 02, K7: a recording compacted inside its buffer, by the words of demand 3.
 
+use crate::configuration::Numbers;
 use crate::desk::{MOST_CALLS, TOO_MANY_CALLS};
 use crate::flown::judge::Plane;
 use crate::flown::{Flown, validate};
@@ -7,15 +8,22 @@ use crate::guidance::{self, Answer, Vertical};
 use crate::record::{self, Call};
 
 /// A call of the recording: its bytes' places, and its answer in the list as first run.
-struct Ran {
+pub struct Ran {
     from: usize,
     to: usize,
-    call: Call,
+    pub call: Call,
     answer: Option<Answer>,
 }
 
-/// The new length and the buffer, or the line that the desk program's text ends in.
-pub fn compact(input: &[u8]) -> Result<(usize, Vec<u8>), String> {
+/// A recording that the desk program reads to its end: its configuration, the place after it, and its calls.
+pub struct Run {
+    pub numbers: Numbers,
+    first: usize,
+    pub calls: Vec<Ran>,
+}
+
+/// A recording read and run, or the line that the desk program's text ends in.
+pub fn run(input: &[u8]) -> Result<Run, String> {
     let (numbers, first) = record::read_configuration(input, 0).map_err(|number| format!("config stopped {number}"))?;
     let field = validate(&numbers);
     if field != 0 {
@@ -26,6 +34,12 @@ pub fn compact(input: &[u8]) -> Result<(usize, Vec<u8>), String> {
     for ran in &mut calls {
         ran.answer = guidance::call(&mut guidance, &ran.call).ok();
     }
+    Ok(Run { numbers, first, calls })
+}
+
+/// The new length and the buffer, or the line that the desk program's text ends in.
+pub fn compact(input: &[u8]) -> Result<(usize, Vec<u8>), String> {
+    let Run { first, calls, .. } = run(input)?;
     let mut out = input[..first].to_vec();
     for (n, ran) in calls.iter().enumerate() {
         if !struck(&calls[..n], ran) {
@@ -53,7 +67,7 @@ fn read_all(input: &[u8], first: usize) -> Result<Vec<Ran>, String> {
 }
 
 /// "Every refused call, and every hold unless the last accepted guide or prime call before it was a fallback."
-fn struck(before: &[Ran], ran: &Ran) -> bool {
+pub fn struck(before: &[Ran], ran: &Ran) -> bool {
     match ran.answer {
         None => true,
         Some(Answer::Waypoint(_, Vertical::Hold, ..)) => {

@@ -1,6 +1,7 @@
 //! The oracle: the published guidance with document 01's stand-in arithmetic, and around it
 //! what document 01 adds. See tools/oracle/README.md for the commands.
 
+mod agree;
 mod callers;
 mod codec;
 mod compact;
@@ -70,6 +71,12 @@ fn compacted(options: &[String]) -> String {
         }
         Some(other) => usage(&format!("unknown option {other}")),
     }
+}
+
+/// Pairs of recordings held together, a line each: the box's, then the display's, each after its length.
+fn agreed() -> String {
+    let bytes = input();
+    parts(&bytes).chunks(2).map(|pair| agree::text(pair[0], pair[1])).collect()
 }
 
 /// Many inputs, each after its length, four bytes, low byte first.
@@ -220,6 +227,7 @@ fn main() {
         Some("desk") => output(lines(Form::Recording, rest).as_bytes()),
         Some("list") => output(lines(Form::List, rest).as_bytes()),
         Some("compact") => output(compacted(rest).as_bytes()),
+        Some("agree") => output(agreed().as_bytes()),
         Some("rewrite") => {
             let (bytes, end) = desk::rewrite(&input());
             output(&bytes);

@@ -1,18 +1,18 @@
--- `read_input` meets its contract. Assumes nothing.
+-- `read_from` meets its contract. Assumes nothing.
 use mathlib.Core.Path.{_≡_}
 use Prim.Native.Nat.{_≤_, _-_}
 use native.Mathlib.Omega.{arith}
 use lib.ListN.{length}
 use borrow.Author.Needs.{needs}
 use Rattle.input.proofs.Law.{counted}
-use Rattle.input.proofs.read_input.Statement.{statement}
-use Rattle.input.proofs.read_input.Tie as tie
+use Rattle.input.proofs.read_from.Statement.{statement}
+use Rattle.input.proofs.read_from.Tie as tie
 
 abbrev Inv-loop : tie.InvT-loop
-Inv-loop buffer₀ size₀ buffer size = (length buffer ≡ length buffer₀) × (size ≤ length buffer)
+Inv-loop descriptor buffer₀ size₀ buffer size = (length buffer ≡ length buffer₀) × (size ≤ length buffer)
 
 abbrev μ-loop : tie.MeasureT-loop
-μ-loop buffer₀ size₀ buffer size = length buffer - size
+μ-loop descriptor buffer₀ size₀ buffer size = length buffer - size
 
 loop-holds : tie.Need-loop-holds Inv-loop μ-loop
 loop-holds c = search needs
@@ -68,8 +68,8 @@ same-length-3 c = search needs
 returns-3 : tie.Need-returns-3 Inv-loop μ-loop
 returns-3 c = counted _ _ (search needs)
 
-pub read-input-spec : {M : Type 1} → statement M
-read-input-spec =
+pub read-from-spec : {M : Type 1} → statement M
+read-from-spec =
     tie.close
     (tie.spec
     Inv-loop

@@ -1,0 +1,2 @@
+-- What a host gets of two recordings.
+pub mod Agreed
