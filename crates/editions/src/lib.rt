@@ -114,7 +114,7 @@ fn turn(part: &mut [u8], map: u64)
 // The first bytes from a place on, in a buffer of their own: a record has at most 86.
 fn copied(s: &[u8], at: usize, size: usize) -> [u8; 86]
     requires { ⌜ (size ≤ 86) × (at + size ≤ length (now s)) ⌝ }
-    ensures { λ r. ⌜ take size r ≡ take size (drop at (now (s .entry))) ⌝ }
+    ensures { λ r. ⌜ (take size r ≡ take size (drop at (now (s .entry)))) × (length r ≡ 86) ⌝ }
 {
     let mut r = [0u8; 86];
     let mut i: usize = 0;
@@ -142,7 +142,7 @@ fn read_second(s: &[u8], at: usize, map: u64) -> ReadCall
         ReadCall::Refused(r) => ReadCall::Refused(r),
         ReadCall::Read { call, next } => ReadCall::Read {
             call,
-            next: at + next,
+            next: at + size,
         },
     }
 }

@@ -1,45 +1,39 @@
+use mathlib.Core.Path.{refl}
+use Prim.Native.Nat.{_-_}
+use native.Mathlib.Omega.{arith}
+use Rattle.editions.proofs.Loops.{Copying, copy-starts, copy-turn, copy-done}
 use Rattle.editions.proofs.copied.Statement.{statement}
 use Rattle.editions.proofs.copied.Tie as tie
-use Rattle.editions.proofs.copied.Reads as reads
-use Rattle.editions.proofs.copied.Lts as lts
 
 abbrev Inv-loop : tie.InvT-loop
-Inv-loop s at size r₀ i₀ r i = ?
+Inv-loop s at size r₀ i₀ r i = Copying s at size r i
 
 abbrev μ-loop : tie.MeasureT-loop
-μ-loop s at size r₀ i₀ r i = ?
+μ-loop s at size r₀ i₀ r i = size - i
 
--- src/lib.rt:121:5
 loop-holds : tie.Need-loop-holds Inv-loop μ-loop
-loop-holds c = ?
+loop-holds c = copy-starts _ _ _ _ refl (c .pre .0) (c .pre .1)
 
--- src/lib.rt:122:18
 add-r : tie.Need-add-r Inv-loop μ-loop
-add-r c = ?
+add-r c = omega arith
 
--- src/lib.rt:122:16
 shared-slice-read-r : tie.Need-shared-slice-read-r Inv-loop μ-loop
-shared-slice-read-r c = ?
+shared-slice-read-r c = omega arith
 
--- src/lib.rt:122:9
 array-write-r : tie.Need-array-write-r Inv-loop μ-loop
-array-write-r c = ?
+array-write-r c = omega arith
 
--- src/lib.rt:123:9
 add-i : tie.Need-add-i Inv-loop μ-loop
-add-i c = ?
+add-i c = omega arith
 
--- src/lib.rt:121:5
 loop-less : tie.Need-loop-less Inv-loop μ-loop
-loop-less c = ?
+loop-less c = omega arith
 
--- src/lib.rt:121:5
 loop-again : tie.Need-loop-again Inv-loop μ-loop
-loop-again c = ?
+loop-again c = copy-turn (c .before .before .loop .inv) (c .before .loop-test .taken)
 
--- src/lib.rt:115:1
 returns : tie.Need-returns Inv-loop μ-loop
-returns c = ?
+returns c = copy-done (c .before .loop .inv) (c .loop-test .left)
 
 pub copied-spec : {M : Type 1} → statement M
 copied-spec =

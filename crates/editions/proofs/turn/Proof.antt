@@ -1,50 +1,42 @@
+-- `turn` meets its contract: the fields before bit i are turned. Assumes nothing.
+use Prim.Native.Nat.{_-_}
+use native.Mathlib.Omega.{arith}
+use Rattle.editions.proofs.Loops.{Turning, turn-starts, turn-room, turn-turn, turn-skips, turn-done}
 use Rattle.editions.proofs.turn.Statement.{statement}
 use Rattle.editions.proofs.turn.Tie as tie
-use Rattle.editions.proofs.turn.Reads as reads
-use Rattle.editions.proofs.turn.Lts as lts
-use Rattle.editions.proofs.turn_field.Reads as turn-field-reads
 
 abbrev Inv-loop : tie.InvT-loop
-Inv-loop part₀ map at₀ m₀ i₀ part at m i = ?
+Inv-loop part₀ map at₀ m₀ i₀ part at m i = Turning part₀ map part at m i
 
 abbrev μ-loop : tie.MeasureT-loop
-μ-loop part₀ map at₀ m₀ i₀ part at m i = ?
+μ-loop part₀ map at₀ m₀ i₀ part at m i = 22 - i
 
--- src/lib.rt:100:5
 loop-holds : tie.Need-loop-holds Inv-loop μ-loop
-loop-holds c = ?
+loop-holds c = turn-starts _ _ (c .before .pre)
 
--- src/lib.rt:103:9
 add-i : tie.Need-add-i Inv-loop μ-loop
-add-i c = ?
+add-i c = omega arith
 
--- src/lib.rt:106:13
 turn-field-requires : tie.Need-turn-field-requires Inv-loop μ-loop
-turn-field-requires c κs = ?
+turn-field-requires c κs = (c .before .before .loop-test .taken, turn-room (c .before .before .before .loop .inv) (c .before .before .loop-test .taken) (c .before .if1 .taken))
 
--- src/lib.rt:100:5
 loop-less : tie.Need-loop-less Inv-loop μ-loop
-loop-less c = ?
+loop-less c = omega arith
 
--- src/lib.rt:100:5
 loop-again : tie.Need-loop-again Inv-loop μ-loop
-loop-again c = ?
+loop-again c = turn-turn (c .before .before .before .before .before .before .loop .inv) (c .before .before .before .before .before .loop-test .taken) (c .before .before .before .before .if1 .taken) _ (c .before .before .turn-field .ensures .0) _ (c .before .before .turn-field .ensures .1)
 
--- src/lib.rt:100:5
 loop-less-2 : tie.Need-loop-less-2 Inv-loop μ-loop
-loop-less-2 c = ?
+loop-less-2 c = omega arith
 
--- src/lib.rt:100:5
 loop-again-2 : tie.Need-loop-again-2 Inv-loop μ-loop
-loop-again-2 c = ?
+loop-again-2 c = turn-skips (c .before .before .loop .inv) (c .before .loop-test .taken) (c .if1 .left)
 
--- src/lib.rt:93:1
 same-length : tie.Need-same-length Inv-loop μ-loop
-same-length c = ?
+same-length c = c .before .loop .inv .long
 
--- src/lib.rt:93:1
 returns : tie.Need-returns Inv-loop μ-loop
-returns c = ?
+returns c = turn-done (c .before .loop .inv) (c .loop-test .left)
 
 pub turn-spec : {M : Type 1} → statement M
 turn-spec =

@@ -1,55 +1,47 @@
+use mathlib.Core.Path.{sym, _∙_}
+use Rattle.editions.proofs.Loops.{down-room, field-turned, field-kept}
 use borrow.Author.Needs.{needs}
 use Rattle.editions.proofs.turn_field.Statement.{statement}
 use Rattle.editions.proofs.turn_field.Tie as tie
-use Rattle.editions.proofs.turn_field.Reads as reads
-use Rattle.editions.proofs.turn_field.Lts as lts
-use Rattle.editions.proofs.bytes_at.Reads as bytes-at-reads
-use Rattle.editions.proofs.is_down.Reads as is-down-reads
-use Rattle.editions.proofs.turn_number.Reads as turn-number-reads
 
--- src/lib.rt:85:8
 is-down-requires : tie.Need-is-down-requires
 is-down-requires c κs = search needs
 
--- src/lib.rt:86:21
 sub-turn-number : tie.Need-sub-turn-number
 sub-turn-number c = search needs
 
--- src/lib.rt:86:21
 part-turn-number-start : tie.Need-part-turn-number-start
 part-turn-number-start c = search needs
 
--- src/lib.rt:86:21
 part-turn-number-end : tie.Need-part-turn-number-end
 part-turn-number-end c = search needs
 
--- src/lib.rt:86:9
 turn-number-requires : tie.Need-turn-number-requires
-turn-number-requires c κs = ?
+turn-number-requires c κs =
+    let a = c .before .before .before .before .args in
+    down-room (a .part .now) (a .at) (a .n) (c .before .before .before .before .pre .1) (sym (c .before .before .is-down .ensures) ∙ c .before .if1 .taken)
 
--- src/lib.rt:87:16
 add-result : tie.Need-add-result
 add-result c = search needs
 
--- src/lib.rt:87:9
 same-length : tie.Need-same-length
 same-length c = search needs
 
--- src/lib.rt:87:9
 returns : tie.Need-returns
-returns c = ?
+returns c =
+    let a = c .before .before .before .before .before .before .before .args in
+    field-turned (a .part .now) (a .at) (a .n) (c .before .before .before .before .before .before .before .pre .1) (sym (c .before .before .before .before .before .is-down .ensures) ∙ c .before .before .before .before .if1 .taken) _ (c .before .before .turn-number .ensures)
 
--- src/lib.rt:89:10
 bytes-at-requires : tie.Need-bytes-at-requires
 bytes-at-requires c κs = search needs
 
--- src/lib.rt:89:5
 add-result-2 : tie.Need-add-result-2
 add-result-2 c = search needs
 
--- src/lib.rt:81:1
 returns-2 : tie.Need-returns-2
-returns-2 c = ?
+returns-2 c =
+    let a = c .before .before .before .before .args in
+    field-kept (a .part .now) (a .at) (a .n) (c .before .before .before .before .pre .1) (sym (c .before .before .is-down .ensures) ∙ c .before .if1 .left) _ (c .bytes-at .ensures)
 
 pub turn-field-spec : {M : Type 1} → statement M
 turn-field-spec =
