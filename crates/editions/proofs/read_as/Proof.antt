@@ -56,7 +56,7 @@ returns-5 c = c .read-call .ensures ∙ first-is _ _ (omega (arith, c .before .b
 read-second-requires : tie.Need-read-second-requires
 read-second-requires c κs =
     let a = c .before .before .before .before .before .before .before .before .before .before .args in
-    (omega (arith, c .before .before .before .before .before .before .before .if2 .left, c .before .before .before .before .before .before .before .before .if1 .left), second-map (a .s .now) (a .at) (omega (arith, c .before .before .before .before .before .before .before .if2 .left, c .before .before .before .before .before .before .before .before .if1 .left)) _ (c .before .before .before .before .before .read-number .ensures .0) _ _ refl refl _ (c .before .if4 .left ∙ c .before .before .mark-of .ensures .0) (c .if5 .left) .0, sym (c .before .before .before .before .is-complete .ensures) ∙ not-false _ (c .before .before .before .if3 .left))
+    (omega (arith, c .before .before .before .before .before .before .before .if2 .left, c .before .before .before .before .before .before .before .before .if1 .left), second-map (a .s .now) (a .at) (omega (arith, c .before .before .before .before .before .before .before .if2 .left, c .before .before .before .before .before .before .before .before .if1 .left)) _ (c .before .before .before .before .before .read-number .ensures .0) _ _ refl refl (a .edition) (c .before .if4 .left ∙ c .before .before .mark-of .ensures .0) (c .if5 .left) .0, sym (c .before .before .before .before .is-complete .ensures) ∙ not-false _ (c .before .before .before .if3 .left))
 
 returns-6 : tie.Need-returns-6
 returns-6 c =
