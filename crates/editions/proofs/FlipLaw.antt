@@ -69,7 +69,7 @@ pub call-wide : Wide 0 callFields
 unfolding Wide
 call-wide = rw fields-are (tt, (tt, numbers-wide 2 (replicate 20 0)))
 
-four : (b : ℕ) → T (eqb b 4) → b ≡ 4
+pub four : (b : ℕ) → T (eqb b 4) → b ≡ 4
 four b t = go (eqb b 4) refl t
   where
     go : (c : Bool) → eqb b 4 ≡ c → T c → b ≡ 4

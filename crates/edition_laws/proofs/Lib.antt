@@ -1,0 +1,2 @@
+pub mod EditionBack
+pub mod ThereAndBack
