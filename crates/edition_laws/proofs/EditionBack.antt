@@ -1,7 +1,7 @@
 -- The laws of the two editions, from those of the call record: a record of the second is one of the first with its fields turned.
 -- Assumes nothing.
 use mathlib.Core.Path.{_≡_, refl, sym, ap, subst, _∙_}
-use mathlib.Core.Bool.{Bool, true, false, cond, not, _&&_}
+use mathlib.Core.Bool.{Bool, true, false, cond, not, _&&_, _||_}
 use mathlib.Core.Logic.{_↔_}
 use mathlib.Core.List.{List, [], _∷_, _++_, append-assoc}
 use Prim.Native.Nat.{ℕ, zero, suc, _+_, _-_, _/_, _%_, _<_, _≤_, _^_}
@@ -58,12 +58,12 @@ plain-is s at e = rw e
 
 not-first : (s : List ℕ) (at : ℕ) (c : Call) (n : ℕ) → bit 22 (numberAt 4 (drop at s)) ≡ true → readAs First s at ≡ Read c n → ⊥
 unfolding readAs
-not-first s at c n e q = go (hasBytes s at 4) (complete (numberAt 4 (drop at s) - mark)) _ (rw e at q)
+not-first s at c n e q = go (hasBytes s at 4) (complete (numberAt 4 (drop at s) - mark)) (rw e at q)
   where
-    go : (a b : Bool) (rest : ReadCall) → cond (not a) (Refused 5) (cond (not b) (Refused 6) (Refused 15)) ≡ Read c n → ⊥
-    go false b rest q = no-read q
-    go true false rest q = no-read q
-    go true true rest q = no-read q
+    go : (a b : Bool) → cond (not a) (Refused 5) (cond (not b) (Refused 6) (Refused 15)) ≡ Read c n → ⊥
+    go false b q = no-read q
+    go true false q = no-read q
+    go true true q = no-read q
 
 not-call : (s : List ℕ) (at : ℕ) (c : Call) (n : ℕ) → bit 22 (numberAt 4 (drop at s)) ≡ true → readCall s at ≡ Read c n → ⊥
 unfolding readCall
@@ -174,7 +174,7 @@ module _ (s : List ℕ) (at : ℕ) where
         small = omega (arith, below-mark fieldsAt (read-is .1))
 
     place-is : found .0 ≡ sizeAt
-    place-is = rw plain-map at (call-within plainAt 0 c (found .0) (found .1) .0)
+    place-is = rw plain-map at (call-within plainAt 0 c (found .0) (found .1) .0) ∙ omega arith
 
     second-held : CallF32 c
     second-held = held plainAt 0 c (found .0) (found .1)

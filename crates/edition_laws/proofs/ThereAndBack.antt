@@ -68,26 +68,30 @@ there-and-back wanted s at out place next end e =
     let f : CallF32 c = edition-held (other wanted) s at c next (a .read) in
     let w = room-answer out place (recordAs wanted c) (a .room) in
     let b : after wanted s at out place ≡ bufferOf out place (recordAs wanted c) = answer-read wanted (readAs (other wanted) s at) c next out place (a .read) .1 in
-    let r : readAs wanted (after wanted s at out place) place ≡ Read c end = rw (b, a .ends) (edition-laws wanted .back out place c f (a .room)) in
-    let r' : readAs (other (other wanted)) (after wanted s at out place) place ≡ Read c end = rw (other-twice wanted) r in
-    (c, record {
-      holds = a .read;
-      written = b ∙ w .1;
-      ends = a .ends;
-      untouched = untouched out place (recordAs wanted c);
-      reads = r;
-      back =
-          λ again there h.
-          let x = answer-read (other wanted) (readAs (other (other wanted)) (after wanted s at out place) place) c end again there r' in
-          let y = room-answer again there (recordAs (other wanted) c) h in
-          (x .0 ∙ ap (places end) (y .0), x .1 ∙ y .1, rw (x .1) (edition-laws (other wanted) .back again there c f h));
-    })
+    let r : readAs wanted (after wanted s at out place) place ≡ Read c end =
+    ap (λ (o : List ℕ). readAs wanted o place) b ∙ edition-laws wanted .back out place c f (a .room) ∙ ap (Read c) (sym (a .ends)) in
+    let r' : readAs (other (other wanted)) (after wanted s at out place) place ≡ Read c end =
+    ap (λ (x : Edition). readAs x (after wanted s at out place) place) (other-twice wanted) ∙ r in (
+      c,
+      record {
+        holds = a .read;
+        written = b ∙ w .1;
+        ends = a .ends;
+        untouched = untouched out place (recordAs wanted c);
+        reads = r;
+        back =
+            λ again there h.
+            let x = answer-read (other wanted) (readAs (other (other wanted)) (after wanted s at out place) place) c end again there r' in
+            let y = room-answer again there (recordAs (other wanted) c) h in
+            (x .0 ∙ ap (places end) (y .0), x .1 ∙ y .1, ap (λ (o : List ℕ). readAs (other wanted) o there) (x .1) ∙ edition-laws (other wanted) .back again there c f h);
+      },
+    )
 
 pub kept : Kept
+unfolding answer buffer answerOf bufferOf
 kept wanted s at out place r e = go (readAs (other wanted) s at) e
   where
     go : (a : ReadCall) → answer wanted a out place ≡ converted.Refused r → buffer wanted a out place ≡ out
-    unfolding answer buffer answerOf bufferOf
     go (Refused k) e = refl
     go (Read c n) e = inner (hasBytes out place (length (recordAs wanted c))) e
       where

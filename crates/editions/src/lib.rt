@@ -235,7 +235,10 @@ fn places_of(next: usize, answer: Written) -> Converted
 {
     match answer {
         Written::Refused(r) => Converted::Refused(r),
-        Written::Next(written) => Converted::Places { read: next, written },
+        Written::Next(written) => Converted::Places {
+            read: next,
+            written,
+        },
     }
 }
 

@@ -33,7 +33,13 @@ fn conversion_of(answer: Converted) -> Conversion
 }
 
 #[no_mangle]
-pub extern "C" fn nuthkolla_convert_record(bytes: &[u8], at: usize, edition: u32, out: &mut [u8], place: usize) -> Conversion
+pub extern "C" fn nuthkolla_convert_record(
+    bytes: &[u8],
+    at: usize,
+    edition: u32,
+    out: &mut [u8],
+    place: usize,
+) -> Conversion
     ensures { λ r. ⌜ (r ≡ spec.conversion edition (now (bytes .entry)) at (now (out .entry)) place) × (now (out .exit) ≡ spec.bufferAfter edition (now (bytes .entry)) at (now (out .entry)) place) ⌝ }
 {
     if edition == 1 {
