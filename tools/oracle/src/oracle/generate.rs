@@ -76,6 +76,11 @@ pub fn records(seed: u64, count: usize) -> Vec<u8> {
     damaged::entries(&mut Random::new(seed), count)
 }
 
+/// A call record, often damaged.
+pub fn call_record(random: &mut Random) -> Vec<u8> {
+    damaged::damaged_call(random)
+}
+
 /// The fields of a call record, as words; any may stand, used by the kind or not.
 pub type Fields = [Option<u32>; NAMED_BITS as usize];
 

@@ -5,6 +5,7 @@ mod codec;
 mod compact;
 mod configuration;
 mod desk;
+mod edition;
 mod flown;
 mod functions;
 mod generate;
@@ -229,6 +230,8 @@ fn main() {
         }
         Some("routes") => output(route::lines(&input()).as_bytes()),
         Some("generate-routes") if rest.len() == 2 => output(&route::generate(number(rest, 0), number(rest, 1) as usize)),
+        Some("editions") => output(edition::lines(&input()).as_bytes()),
+        Some("generate-editions") if rest.len() == 2 => output(&edition::generate(number(rest, 0), number(rest, 1) as usize)),
         Some("records") => output(codec::lines(&input()).as_bytes()),
         Some("evaluate") => output(evaluate(&String::from_utf8_lossy(&input())).as_bytes()),
         Some("functions") => output(list_functions().as_bytes()),
