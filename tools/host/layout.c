@@ -128,6 +128,10 @@ int main(void)
     AT(nuthkolla_compaction, field);
     AT(nuthkolla_compaction, call);
     AT(nuthkolla_compaction, length);
+    SIZE(nuthkolla_conversion);
+    AT(nuthkolla_conversion, refusal);
+    AT(nuthkolla_conversion, read);
+    AT(nuthkolla_conversion, written);
     SIZE(nuthkolla_path);
     AT(nuthkolla_path, refusal);
     AT(nuthkolla_path, reason);

@@ -144,6 +144,10 @@ fn main() {
     at!("nuthkolla_compaction.field", ffi::Compaction, field);
     at!("nuthkolla_compaction.call", ffi::Compaction, call);
     at!("nuthkolla_compaction.length", ffi::Compaction, length);
+    size!("nuthkolla_conversion", ffi::Conversion);
+    at!("nuthkolla_conversion.refusal", ffi::Conversion, refusal);
+    at!("nuthkolla_conversion.read", ffi::Conversion, read);
+    at!("nuthkolla_conversion.written", ffi::Conversion, written);
     size!("nuthkolla_path", ffi::Path);
     at!("nuthkolla_path.refusal", ffi::Path, refusal);
     at!("nuthkolla_path.reason", ffi::Path, reason);

@@ -120,6 +120,14 @@ pub struct Compaction {
 
 #[repr(C)]
 #[derive(Clone, Copy, Debug)]
+pub struct Conversion {
+    pub refusal: u32,
+    pub read: usize,
+    pub written: usize,
+}
+
+#[repr(C)]
+#[derive(Clone, Copy, Debug)]
 pub struct RouteAnswer {
     pub answer: Answer,
     pub number: u32,
@@ -148,6 +156,15 @@ extern "C" {
     pub fn nuthkolla_run_route(guidance: *mut Guidance, call: RouteCall, numbers: *const f32, count: usize) -> RouteAnswer;
     pub fn nuthkolla_write_route(out: *mut u8, length: usize, at: usize, map: u64, numbers: *const f32, count: usize) -> Place;
     pub fn nuthkolla_compact(bytes: *mut u8, length: usize) -> Compaction;
+    pub fn nuthkolla_convert_record(
+        bytes: *const u8,
+        length: usize,
+        at: usize,
+        edition: u32,
+        out: *mut u8,
+        out_length: usize,
+        place: usize,
+    ) -> Conversion;
     pub fn nuthkolla_draw_path(guidance: Guidance, call: Call, steps: usize, out: *mut f32, length: usize) -> Path;
     pub fn nuthkolla_default_config() -> crate::PlaneGuidanceConfig;
     pub fn nuthkolla_validate(config: crate::PlaneGuidanceConfig) -> u32;

@@ -387,6 +387,8 @@ pub enum Refusal {
     Steps,
     /// 14: no change is left to take back.
     NothingKept,
+    /// 15: a record is already of the wanted edition.
+    Already,
 }
 
 impl Refusal {
@@ -406,6 +408,7 @@ impl Refusal {
             Refusal::Calls => 9,
             Refusal::Steps => 12,
             Refusal::NothingKept => 14,
+            Refusal::Already => 15,
         }
     }
 
@@ -424,6 +427,7 @@ impl Refusal {
             9 => Refusal::Calls,
             12 => Refusal::Steps,
             14 => Refusal::NothingKept,
+            15 => Refusal::Already,
             _ => Refusal::Room,
         })
     }

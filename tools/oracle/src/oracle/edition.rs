@@ -114,7 +114,8 @@ pub fn generate(seed: u64, count: usize) -> Vec<u8> {
     let random = &mut random;
     let mut bytes = Vec::new();
     for _ in 0..count {
-        let mut record = call_record(random);
+        let damaged = random.once_in(2);
+        let mut record = call_record(random, damaged);
         set_special(random, &mut record);
         if random.once_in(2) && record.len() >= CALL_MAP_BYTES {
             record[2] |= (SECOND >> 16) as u8;
@@ -129,7 +130,8 @@ pub fn generate(seed: u64, count: usize) -> Vec<u8> {
         let beyond = if random.once_in(20) { record.len() + random.below(3) } else { 0 };
         let read_place = if random.once_in(100) { 255 } else { (junk + beyond).min(254) as u8 };
         let write_place = if random.once_in(100) { 255 } else { random.below(8) as u8 };
-        bytes.extend([wanted, read_place, write_place, random.below(160) as u8, (junk + record.len()) as u8]);
+        let room = if random.once_in(3) { random.below(100) } else { 94 + random.below(60) };
+        bytes.extend([wanted, read_place, write_place, room as u8, (junk + record.len()) as u8]);
         bytes.extend((0..junk).map(|_| random.below(256) as u8));
         bytes.extend(record);
     }
