@@ -242,6 +242,11 @@ second-longest =
 
 -- ---- of each edition
 
+-- a record has at least its map
+pub edition-long : (e : Edition) (c : Call) → 4 ≤ length (recordAs e c)
+edition-long First c = rw (first-is c) (omega (arith, same-long c, second-long c))
+edition-long Second c = omega (arith, second-long c)
+
 pub edition-laws : (e : Edition) → EditionLaws e
 edition-laws First = first-laws
 edition-laws Second = second-laws

@@ -4,6 +4,7 @@ use mathlib.Core.Bool.{Bool, true, false, cond}
 use mathlib.Core.List.{List}
 use Prim.Native.Nat.{ℕ, _+_}
 use native.Mathlib.Omega.{arith}
+use borrow.Author.Tests.{leb-true}
 use lib.ListN.{length}
 use Rattle.fields.specs.declared.Written.{Written}
 use Rattle.fields.specs.declared.Written.the-variants as write
@@ -20,7 +21,7 @@ use Rattle.editions.specs.declared.Converted.{Converted}
 use Rattle.editions.specs.declared.Converted.the-variants as converted
 use Rattle.editions.specs.Edition.{readAs, recordAs, other, places, answer, buffer}
 use Rattle.edition_laws.specs.Laws.{converted-to, after, Converts, ThereAndBack, Kept}
-use Rattle.edition_laws.proofs.EditionBack.{edition-laws, edition-held}
+use Rattle.edition_laws.proofs.EditionBack.{edition-laws, edition-long, edition-held}
 
 other-twice : (e : Edition) → other (other e) ≡ e
 other-twice First = refl
@@ -77,6 +78,9 @@ there-and-back wanted s at out place next end e =
         holds = a .read;
         written = b ∙ w .1;
         ends = a .ends;
+      fits = omega (arith, a .ends, leb-true (place + length (recordAs wanted c)) (length out) (a .room));
+      further =
+          omega (arith, edition-laws (other wanted) .again s at c next (a .read) .0, edition-long (other wanted) c);
         untouched = untouched out place (recordAs wanted c);
         reads = r;
         back =

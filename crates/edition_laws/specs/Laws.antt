@@ -3,7 +3,7 @@
 use mathlib.Core.Path.{_≡_}
 use mathlib.Core.Bool.{true}
 use mathlib.Core.List.{List}
-use Prim.Native.Nat.{ℕ, _+_}
+use Prim.Native.Nat.{ℕ, _+_, _<_, _≤_}
 use lib.ListN.{length, drop}
 use Rattle.fields.specs.Bytes.{numberAt, hasBytes, putAt}
 use Rattle.fields.specs.Fields.{bit}
@@ -44,6 +44,9 @@ pub record Converts (wanted : Edition) (s : List ℕ) (at : ℕ) (out : List ℕ
   -- the bytes are those of the writer's rules, and no other byte is touched
   pub written : after wanted s at out place ≡ putAt out place (recordAs wanted c)
   pub ends : end ≡ place + length (recordAs wanted c)
+  pub fits : end ≤ length out
+  -- the reader moves on
+  pub further : at < next
   pub untouched : Untouched out place (recordAs wanted c)
   -- by its own edition the converted record reads as the same call
   pub reads : readAs wanted (after wanted s at out place) place ≡ Read c end
