@@ -78,9 +78,9 @@ there-and-back wanted s at out place next end e =
         holds = a .read;
         written = b ∙ w .1;
         ends = a .ends;
-      fits = omega (arith, a .ends, leb-true (place + length (recordAs wanted c)) (length out) (a .room));
-      further =
-          omega (arith, edition-laws (other wanted) .again s at c next (a .read) .0, edition-long (other wanted) c);
+        fits = omega (arith, a .ends, leb-true (place + length (recordAs wanted c)) (length out) (a .room));
+        further =
+            omega (arith, edition-laws (other wanted) .again s at c next (a .read) .0, edition-long (other wanted) c);
         untouched = untouched out place (recordAs wanted c);
         reads = r;
         back =
