@@ -27,7 +27,9 @@ cast-t15 : tie.Need-cast-t15 Inv-loop μ-loop
 cast-t15 c = search needs
 
 same-length : tie.Need-same-length Inv-loop μ-loop
-same-length c = omega (arith, c .before .before .before .before .before .convert .kept .1 .1 .1 .0, c .before .before .before .before .before .before .before .before .loop .inv .0)
+same-length c =
+    let done = c .before .before .before .before .before in
+    omega (arith, done .convert .kept .1 .1 .1 .0, done .before .before .before .loop .inv .0)
 
 returns : tie.Need-returns Inv-loop μ-loop
 returns c = omega arith
@@ -36,17 +38,28 @@ enum-known-done-2 : tie.Need-enum-known-done-2 Inv-loop μ-loop
 enum-known-done-2 c = search needs
 
 add-n : tie.Need-add-n Inv-loop μ-loop
-add-n c = omega (arith, c .before .before .before .before .before .before .before .before .loop .inv .2, c .before .before .before .before .before .before .before .loop-test .taken, c .before .before .before .before .before .before .before .before .before .before .before .pre)
+add-n c =
+    let test = c .before .before .before .before .before .before .before in
+    omega (arith, test .before .loop .inv .2, test .loop-test .taken, test .before .before .before .before .pre)
 
 loop-less : tie.Need-loop-less Inv-loop μ-loop
-loop-less c = omega (arith, c .before .before .before .before .before .before .before .loop-test .taken, further (c .before .before .before .before .before .before .before .before .before .before .before .args .wanted) (c .before .before .before .before .before .before .before .before .before .before .before .args .s .now) (c .before .before .before .before .before .before .before .before .loop .at) (c .before .before .before .before .before .before .before .before .loop .out) (c .before .before .before .before .before .before .before .before .loop .to) _ _ _ (c .before .before .before .before .before .convert .ensures .0) (c .before .done2 .given .1))
+loop-less c =
+    let done = c .before .before .before .before .before in
+    let test = done .before .before in
+    let turn = test .before .loop in
+    let a = test .before .before .before .before .args in
+    omega (arith, test .loop-test .taken, further (a .wanted) (a .s .now) (turn .at) (turn .out) (turn .to) _ _ _ (done .convert .ensures .0) (c .before .done2 .given .1))
 
 loop-again : tie.Need-loop-again Inv-loop μ-loop
-loop-again c = (
-  omega (arith, c .before .before .before .before .before .convert .kept .1 .1 .1 .0, c .before .before .before .before .before .before .before .before .loop .inv .0),
-  omega (arith, c .before .before .before .before .before .convert .kept .1 .1 .1 .0, fits (c .before .before .before .before .before .before .before .before .before .before .before .args .wanted) (c .before .before .before .before .before .before .before .before .before .before .before .args .s .now) (c .before .before .before .before .before .before .before .before .loop .at) (c .before .before .before .before .before .before .before .before .loop .out) (c .before .before .before .before .before .before .before .before .loop .to) _ _ _ (c .before .before .before .before .before .convert .ensures .0) (c .before .done2 .given .1)),
-  omega (arith, c .before .before .before .before .before .before .before .before .loop .inv .2, further (c .before .before .before .before .before .before .before .before .before .before .before .args .wanted) (c .before .before .before .before .before .before .before .before .before .before .before .args .s .now) (c .before .before .before .before .before .before .before .before .loop .at) (c .before .before .before .before .before .before .before .before .loop .out) (c .before .before .before .before .before .before .before .before .loop .to) _ _ _ (c .before .before .before .before .before .convert .ensures .0) (c .before .done2 .given .1)),
-)
+loop-again c =
+    let done = c .before .before .before .before .before in
+    let test = done .before .before in
+    let turn = test .before .loop in
+    let a = test .before .before .before .before .args in (
+      omega (arith, done .convert .kept .1 .1 .1 .0, turn .inv .0),
+      omega (arith, done .convert .kept .1 .1 .1 .0, fits (a .wanted) (a .s .now) (turn .at) (turn .out) (turn .to) _ _ _ (done .convert .ensures .0) (c .before .done2 .given .1)),
+      omega (arith, turn .inv .2, further (a .wanted) (a .s .now) (turn .at) (turn .out) (turn .to) _ _ _ (done .convert .ensures .0) (c .before .done2 .given .1)),
+    )
 
 same-length-2 : tie.Need-same-length-2 Inv-loop μ-loop
 same-length-2 c = c .before .loop .inv .0

@@ -26,16 +26,22 @@ places-of-requires c κs = search needs
 
 returns : tie.Need-returns
 returns c =
-    let a = c .before .before .before .before .before .before .before .args in
-    refusal-is (a .wanted) _ (a .out .now) (a .place) _ (sym (ap (λ (e : Edition). readAs e (a .s .now) (a .at)) (c .before .before .before .before .other .ensures)) ∙ sym (c .before .before .before .read-as .ensures) ∙ c .before .read .given .1)
+    let read = c .before .before .before in
+    let a = read .before .before .before .before .args in
+    let other-is = ap (λ (e : Edition). readAs e (a .s .now) (a .at)) (read .before .other .ensures) in
+    refusal-is (a .wanted) _ (a .out .now) (a .place) _ (sym other-is ∙ sym (read .read-as .ensures) ∙ c .before .read .given .1)
 
 same-length : tie.Need-same-length
 same-length c = search needs
 
 returns-2 : tie.Need-returns-2
 returns-2 c =
-    let a = c .before .before .before .before .before .before .before .before .before .before .before .before .args in
-    places-are (a .wanted) _ (a .out .now) (a .place) _ _ (sym (ap (λ (e : Edition). readAs e (a .s .now) (a .at)) (c .before .before .before .before .before .before .before .before .before .other .ensures)) ∙ sym (c .before .before .before .before .before .before .before .before .read-as .ensures) ∙ c .before .before .before .before .before .before .read2 .given .1) _ _ _ (c .before .before .before .write-as .ensures .0) (c .before .before .before .write-as .ensures .1) (c .places-of .ensures)
+    let written = c .before .before .before in
+    let read = written .before .before .before .before .before in
+    let a = read .before .before .before .before .args in
+    let other-is = ap (λ (e : Edition). readAs e (a .s .now) (a .at)) (read .before .other .ensures) in
+    places-are (a .wanted) _ (a .out .now) (a .place) _ _ (sym other-is ∙ sym (read .read-as .ensures) ∙ written .before .before .before .read2 .given .1) _ _ _
+    (written .write-as .ensures .0) (written .write-as .ensures .1) (c .places-of .ensures)
 
 pub convert-spec : {M : Type 1} → statement M
 convert-spec =

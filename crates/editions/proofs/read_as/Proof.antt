@@ -39,29 +39,53 @@ is-complete-requires : tie.Need-is-complete-requires
 is-complete-requires c κs = search needs
 
 returns-3 : tie.Need-returns-3
-returns-3 c = incomplete _ _ _ (omega (arith, c .before .before .before .before .if2 .left, c .before .before .before .before .before .if1 .left)) _ (c .before .before .read-number .ensures .0) _ _ refl refl _ (c .before .is-complete .ensures) (not-true _ (c .if3 .taken))
+returns-3 c =
+    let number = c .before .before in
+    let room = number .before .before in
+    incomplete _ _ _ (omega (arith, room .if2 .left, room .before .if1 .left)) _ (number .read-number .ensures .0) _ _ refl refl _ (c .before .is-complete .ensures) (not-true _ (c .if3 .taken))
 
 mark-of-requires : tie.Need-mark-of-requires
 mark-of-requires c κs = search needs
 
 returns-4 : tie.Need-returns-4
-returns-4 c = already _ _ _ (omega (arith, c .before .before .before .before .before .before .if2 .left, c .before .before .before .before .before .before .before .if1 .left)) _ (c .before .before .before .before .read-number .ensures .0) _ _ refl refl _ (c .before .before .before .is-complete .ensures) (not-false _ (c .before .before .if3 .left)) _ (c .before .mark-of .ensures .0) (c .if4 .taken)
+returns-4 c =
+    let number = c .before .before .before .before in
+    let room = number .before .before in
+    already _ _ _ (omega (arith, room .if2 .left, room .before .if1 .left)) _ (number .read-number .ensures .0) _ _ refl refl _
+    (c .before .before .before .is-complete .ensures) (not-false _ (c .before .before .if3 .left)) _ (c .before .mark-of .ensures .0) (c .if4 .taken)
 
 read-call-requires : tie.Need-read-call-requires
 read-call-requires c κs = search needs
 
 returns-5 : tie.Need-returns-5
-returns-5 c = c .read-call .ensures ∙ first-is _ _ (omega (arith, c .before .before .before .before .before .before .before .before .if2 .left, c .before .before .before .before .before .before .before .before .before .if1 .left)) _ (c .before .before .before .before .before .before .read-number .ensures .0) _ _ refl refl _ (c .before .before .if4 .left ∙ c .before .before .before .mark-of .ensures .0) (c .before .if5 .taken) (sym (c .before .before .before .before .before .is-complete .ensures) ∙ not-false _ (c .before .before .before .before .if3 .left))
+returns-5 c =
+    let number = c .before .before .before .before .before .before in
+    let room = number .before .before in
+    let marked = c .before .before .before in
+    c .read-call .ensures
+    ∙ first-is _ _ (omega (arith, room .if2 .left, room .before .if1 .left)) _ (number .read-number .ensures .0) _ _ refl refl _
+    (c .before .before .if4 .left ∙ marked .mark-of .ensures .0) (c .before .if5 .taken) (sym (marked .before .before .is-complete .ensures) ∙ not-false _ (marked .before .if3 .left))
 
 read-second-requires : tie.Need-read-second-requires
 read-second-requires c κs =
-    let a = c .before .before .before .before .before .before .before .before .before .before .args in
-    (omega (arith, c .before .before .before .before .before .before .before .if2 .left, c .before .before .before .before .before .before .before .before .if1 .left), second-map (a .s .now) (a .at) (omega (arith, c .before .before .before .before .before .before .before .if2 .left, c .before .before .before .before .before .before .before .before .if1 .left)) _ (c .before .before .before .before .before .read-number .ensures .0) _ _ refl refl (a .edition) (c .before .if4 .left ∙ c .before .before .mark-of .ensures .0) (c .if5 .left) .0, sym (c .before .before .before .before .is-complete .ensures) ∙ not-false _ (c .before .before .before .if3 .left))
+    let number = c .before .before .before .before .before in
+    let room = number .before .before in
+    let marked = c .before .before in
+    let a = room .before .before .before .args in (
+      omega (arith, room .if2 .left, room .before .if1 .left),
+      second-map (a .s .now) (a .at) (omega (arith, room .if2 .left, room .before .if1 .left)) _ (number .read-number .ensures .0) _ _ refl refl (a .edition) (c .before .if4 .left ∙ marked .mark-of .ensures .0) (c .if5 .left) .0,
+      sym (marked .before .before .is-complete .ensures) ∙ not-false _ (marked .before .if3 .left),
+    )
 
 returns-6 : tie.Need-returns-6
 returns-6 c =
-    let a = c .before .before .before .before .before .before .before .before .before .before .before .args in
-    c .read-second .ensures ∙ ap (λ (e : Edition). readAs e (a .s .now) (a .at)) (sym (second-map (a .s .now) (a .at) (omega (arith, c .before .before .before .before .before .before .before .before .if2 .left, c .before .before .before .before .before .before .before .before .before .if1 .left)) _ (c .before .before .before .before .before .before .read-number .ensures .0) _ _ refl refl _ (c .before .before .if4 .left ∙ c .before .before .before .mark-of .ensures .0) (c .before .if5 .left) .1))
+    let number = c .before .before .before .before .before .before in
+    let room = number .before .before in
+    let marked = c .before .before .before in
+    let a = room .before .before .before .args in
+    c .read-second .ensures
+    ∙ ap (λ (e : Edition). readAs e (a .s .now) (a .at))
+    (sym (second-map (a .s .now) (a .at) (omega (arith, room .if2 .left, room .before .if1 .left)) _ (number .read-number .ensures .0) _ _ refl refl (a .edition) (c .before .before .if4 .left ∙ marked .mark-of .ensures .0) (c .before .if5 .left) .1))
 
 pub read-as-spec : {M : Type 1} → statement M
 read-as-spec =

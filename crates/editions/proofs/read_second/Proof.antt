@@ -15,7 +15,9 @@ sub-if1 : tie.Need-sub-if1
 sub-if1 c = search needs
 
 returns : tie.Need-returns
-returns c = short _ _ _ (c .before .before .before .pre .0) (c .before .before .before .pre .1) (c .before .before .before .pre .2) (omega (arith, c .if1 .taken, c .before .fields-size .ensures .0))
+returns c =
+    let asked = c .before .before .before .pre in
+    short _ _ _ (asked .0) (asked .1) (asked .2) (omega (arith, c .if1 .taken, c .before .fields-size .ensures .0))
 
 copied-requires : tie.Need-copied-requires
 copied-requires c κs = search needs
@@ -45,13 +47,35 @@ enum-known-read-2 : tie.Need-enum-known-read-2
 enum-known-read-2 c = search needs
 
 add-t22 : tie.Need-add-t22
-add-t22 c = omega (arith, c .before .before .before .before .before .before .before .before .before .before .before .before .if1 .left, c .before .before .before .before .before .before .before .before .before .before .before .before .before .before .before .pre .0)
+add-t22 c =
+    let room = c .before .before .before .before .before .before .before .before .before .before .before .before in
+    omega (arith, room .if1 .left, room .before .before .before .pre .0)
 
 returns-2 : tie.Need-returns-2
-returns-2 c = ap (placed _) (sym (c .before .read .given .1)) ∙ second-answer _ _ _ (c .before .before .before .before .before .before .before .before .before .before .before .before .before .before .before .pre .0) (c .before .before .before .before .before .before .before .before .before .before .before .before .before .before .before .pre .1) (c .before .before .before .before .before .before .before .before .before .before .before .before .before .before .before .pre .2) _ (c .before .before .before .before .before .before .before .before .before .before .before .before .before .fields-size .ensures .0) (omega (arith, c .before .before .before .before .before .before .before .before .before .before .before .before .if1 .left, c .before .before .before .before .before .before .before .before .before .before .before .before .before .before .before .pre .0)) _ _ _ (c .before .before .before .before .before .before .before .before .before .before .before .copied .ensures .0) (omega (arith, c .before .before .before .before .before .before .before .before .before .before .before .copied .ensures .1, c .before .before .before .before .before .before .before .before .before .before .before .before .before .fields-size .ensures .1)) (c .before .before .before .before .before .before .before .before .before .turn .ensures) (c .before .before .before .before .before .before .write-number .ensures) _ (c .before .before .before .read-call .ensures)
+returns-2 c =
+    let read = c .before .before .before in
+    let written = read .before .before .before in
+    let turned = written .before .before .before in
+    let copy = turned .before .before in
+    let size = copy .before .before in
+    let asked = size .before .before .pre in
+    ap (placed _) (sym (c .before .read .given .1))
+    ∙ second-answer _ _ _ (asked .0) (asked .1) (asked .2) _ (size .fields-size .ensures .0) (omega (arith, copy .before .if1 .left, asked .0)) _ _ _
+    (copy .copied .ensures .0) (omega (arith, copy .copied .ensures .1, size .fields-size .ensures .1))
+    (turned .turn .ensures) (written .write-number .ensures) _ (read .read-call .ensures)
 
 returns-3 : tie.Need-returns-3
-returns-3 c = ap (placed _) (sym (c .before .read2 .given .1)) ∙ second-answer _ _ _ (c .before .before .before .before .before .before .before .before .before .before .before .before .before .before .before .pre .0) (c .before .before .before .before .before .before .before .before .before .before .before .before .before .before .before .pre .1) (c .before .before .before .before .before .before .before .before .before .before .before .before .before .before .before .pre .2) _ (c .before .before .before .before .before .before .before .before .before .before .before .before .before .fields-size .ensures .0) (omega (arith, c .before .before .before .before .before .before .before .before .before .before .before .before .if1 .left, c .before .before .before .before .before .before .before .before .before .before .before .before .before .before .before .pre .0)) _ _ _ (c .before .before .before .before .before .before .before .before .before .before .before .copied .ensures .0) (omega (arith, c .before .before .before .before .before .before .before .before .before .before .before .copied .ensures .1, c .before .before .before .before .before .before .before .before .before .before .before .before .before .fields-size .ensures .1)) (c .before .before .before .before .before .before .before .before .before .turn .ensures) (c .before .before .before .before .before .before .write-number .ensures) _ (c .before .before .before .read-call .ensures)
+returns-3 c =
+    let read = c .before .before .before in
+    let written = read .before .before .before in
+    let turned = written .before .before .before in
+    let copy = turned .before .before in
+    let size = copy .before .before in
+    let asked = size .before .before .pre in
+    ap (placed _) (sym (c .before .read2 .given .1))
+    ∙ second-answer _ _ _ (asked .0) (asked .1) (asked .2) _ (size .fields-size .ensures .0) (omega (arith, copy .before .if1 .left, asked .0)) _ _ _
+    (copy .copied .ensures .0) (omega (arith, copy .copied .ensures .1, size .fields-size .ensures .1))
+    (turned .turn .ensures) (written .write-number .ensures) _ (read .read-call .ensures)
 
 pub read-second-spec : {M : Type 1} → statement M
 read-second-spec =

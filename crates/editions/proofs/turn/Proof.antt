@@ -24,7 +24,10 @@ loop-less : tie.Need-loop-less Inv-loop μ-loop
 loop-less c = omega arith
 
 loop-again : tie.Need-loop-again Inv-loop μ-loop
-loop-again c = turn-turn (c .before .before .before .before .before .before .loop .inv) (c .before .before .before .before .before .loop-test .taken) (c .before .before .before .before .if1 .taken) _ (c .before .before .turn-field .ensures .0) _ (c .before .before .turn-field .ensures .1)
+loop-again c =
+    let done = c .before .before .turn-field .ensures in
+    let test = c .before .before .before .before in
+    turn-turn (test .before .before .loop .inv) (test .before .loop-test .taken) (test .if1 .taken) _ (done .0) _ (done .1)
 
 loop-less-2 : tie.Need-loop-less-2 Inv-loop μ-loop
 loop-less-2 c = omega arith

@@ -29,8 +29,10 @@ same-length c = search needs
 
 returns : tie.Need-returns
 returns c =
-    let a = c .before .before .before .before .before .before .before .args in
-    field-turned (a .part .now) (a .at) (a .n) (c .before .before .before .before .before .before .before .pre .1) (sym (c .before .before .before .before .before .is-down .ensures) ∙ c .before .before .before .before .if1 .taken) _ (c .before .before .turn-number .ensures)
+    let test = c .before .before .before .before in
+    let start = test .before .before .before in
+    let a = start .args in
+    field-turned (a .part .now) (a .at) (a .n) (start .pre .1) (sym (test .before .is-down .ensures) ∙ test .if1 .taken) _ (c .before .before .turn-number .ensures)
 
 bytes-at-requires : tie.Need-bytes-at-requires
 bytes-at-requires c κs = search needs

@@ -20,7 +20,10 @@ same-length : tie.Need-same-length
 same-length c = search needs
 
 returns : tie.Need-returns
-returns c = record-turned _ _ _ _ (omega (arith, c .before .before .before .before .before .before .before .before .before .before .before .pre)) (c .before .before .before .before .before .before .before .before .read-number .ensures .0) (c .before .before .before .before .before .before .turn .ensures) (c .before .before .write-number .ensures)
+returns c =
+    let turned = c .before .before .before .before .before .before in
+    let read = turned .before .before in
+    record-turned _ _ _ _ (omega (arith, read .before .before .before .pre)) (read .read-number .ensures .0) (turned .turn .ensures) (c .before .before .write-number .ensures)
 
 pub turn-record-spec : {M : Type 1} → statement M
 turn-record-spec =
