@@ -17,6 +17,8 @@ const SECOND: u32 = 1 << 22;
 const DOWN: [u32; 3] = [ALTITUDE, POSITION + 2, VELOCITY + 2];
 const SIGN: u32 = 1 << 31;
 const FILL: u8 = 0xa5;
+/// Zeros, NaNs and infinities of both signs, and the least subnormal.
+const SPECIAL: [u32; 9] = [0, SIGN, 0x7fc0_0000, 0xffc0_0000, 0x7f80_0001, 0xffff_ffff, 0x7f80_0000, 0xff80_0000, 1];
 
 /// The fields of one edition as the other has them: the sign bit of each that stands is flipped.
 fn flipped(mut fields: Fields) -> Fields {
@@ -79,7 +81,8 @@ pub fn lines(mut input: &[u8]) -> String {
         if input.is_empty() {
             break;
         }
-        let parts = input.split_at_checked(5).and_then(|(head, rest)| Some((head, rest.split_at_checked(head[4] as usize)?)));
+        let parts =
+            input.split_at_checked(5).and_then(|(head, rest)| Some((head, rest.split_at_checked(head[4] as usize)?)));
         let Some((head, (bytes, rest))) = parts else {
             out += &format!("{n} stopped {SHORT}\n");
             break;
@@ -102,8 +105,7 @@ fn set_special(random: &mut Random, record: &mut [u8]) {
     for bit in DOWN {
         let at = field_place(map, bit);
         if map >> bit & 1 == 1 && at + 4 <= record.len() && random.once_in(2) {
-            let word: u32 = random.pick(&[0, SIGN, 0x7fc0_0000, 0xffc0_0000, 0x7f80_0001, 0xffff_ffff, 0x7f80_0000, 0xff80_0000, 1]);
-            record[at..at + 4].copy_from_slice(&word.to_le_bytes());
+            record[at..at + 4].copy_from_slice(&random.pick(&SPECIAL).to_le_bytes());
         }
     }
 }
