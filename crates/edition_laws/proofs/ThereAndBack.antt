@@ -20,7 +20,7 @@ use Rattle.editions.specs.declared.Edition.the-variants.{First, Second}
 use Rattle.editions.specs.declared.Converted.{Converted}
 use Rattle.editions.specs.declared.Converted.the-variants as converted
 use Rattle.editions.specs.Edition.{readAs, recordAs, other, places, answer, buffer}
-use Rattle.edition_laws.specs.Laws.{converted-to, after, Converts, ThereAndBack, Kept}
+use Rattle.edition_laws.specs.Laws.{convertedTo, after, Converts, ThereAndBack, Kept}
 use Rattle.edition_laws.proofs.EditionBack.{edition-laws, edition-long, edition-held}
 
 other-twice : (e : Edition) → other (other e) ≡ e

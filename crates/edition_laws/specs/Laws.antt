@@ -31,8 +31,8 @@ abbrev pub Unnamed : Type 0
 Unnamed = (s : List ℕ) (at : ℕ) → hasBytes s at 4 ≡ true → bit 22 (numberAt 4 (drop at s)) ≡ true → readCall s at ≡ Refused 6
 
 -- the answer of a conversion, and the second buffer after it
-abbrev pub converted-to : Edition → List ℕ → ℕ → List ℕ → ℕ → Converted
-converted-to wanted s at out place = answer wanted (readAs (other wanted) s at) out place
+abbrev pub convertedTo : Edition → List ℕ → ℕ → List ℕ → ℕ → Converted
+convertedTo wanted s at out place = answer wanted (readAs (other wanted) s at) out place
 
 abbrev pub after : Edition → List ℕ → ℕ → List ℕ → ℕ → List ℕ
 after wanted s at out place = buffer wanted (readAs (other wanted) s at) out place
@@ -53,16 +53,16 @@ pub record Converts (wanted : Edition) (s : List ℕ) (at : ℕ) (out : List ℕ
   -- coming back, into any buffer with room: the same call, in the bytes of the writer's rules
   pub back :
       (again : List ℕ) (there : ℕ) → hasBytes again there (length (recordAs (other wanted) c)) ≡ true
-      → (converted-to (other wanted) (after wanted s at out place) place again there ≡ converted.Places end (there + length (recordAs (other wanted) c)))
+      → (convertedTo (other wanted) (after wanted s at out place) place again there ≡ converted.Places end (there + length (recordAs (other wanted) c)))
       × (after (other wanted) (after wanted s at out place) place again there ≡ putAt again there (recordAs (other wanted) c))
       × (readAs (other wanted) (after (other wanted) (after wanted s at out place) place again there) there ≡ Read c (there + length (recordAs (other wanted) c)))
 
 -- "Going and coming back gives the same call, bit for bit, in the bytes of the writer's rules."
 abbrev pub ThereAndBack : Type 0
 ThereAndBack =
-    (wanted : Edition) (s : List ℕ) (at : ℕ) (out : List ℕ) (place next end : ℕ) → converted-to wanted s at out place ≡ converted.Places next end
+    (wanted : Edition) (s : List ℕ) (at : ℕ) (out : List ℕ) (place next end : ℕ) → convertedTo wanted s at out place ≡ converted.Places next end
     → (c : Call) × Converts wanted s at out place next end c
 
 -- a refusal keeps every byte
 abbrev pub Kept : Type 0
-Kept = (wanted : Edition) (s : List ℕ) (at : ℕ) (out : List ℕ) (place r : ℕ) → converted-to wanted s at out place ≡ converted.Refused r → after wanted s at out place ≡ out
+Kept = (wanted : Edition) (s : List ℕ) (at : ℕ) (out : List ℕ) (place r : ℕ) → convertedTo wanted s at out place ≡ converted.Refused r → after wanted s at out place ≡ out
