@@ -29,6 +29,9 @@
  *   4  a waypoint's pitch, thrust or a number it would store would not be finite
  * of a recording, after those of its records and its configuration:
  *   9  it has more than 4,096 calls
+ * of a record that is converted, 15 after its 6 and before its 5, 8 at the end:
+ * 255  the wanted edition is neither 1 nor 2
+ *  15  the record is already of the wanted edition
  * of a drawn path:
  * 255  its call is no waypoint
  *   7  its regime is above 1
@@ -359,6 +362,21 @@ typedef struct nuthkolla_agreed {
  * call values are held equal as bits, every NaN alike, whatever map spelled them. Where both are refused, the box's refusal is given.
  * Of recordings that agree the remaining calls have equal answers in both replays. */
 nuthkolla_agreed nuthkolla_agree(const uint8_t *box_bytes, size_t box_length, const uint8_t *display_bytes, size_t display_length);
+
+/* ---- editions: in the second edition of the call record bit 22 stands with no field, and altitude, position z and velocity z,
+ * where they stand, have their sign bit flipped: down is positive. No other function knows that bit: it is refused with 6. */
+
+typedef struct nuthkolla_conversion {
+    uint32_t refusal; /* 0, or the refusal's number: 255, 5, 6, 15, 5, 7, 8 in checking order */
+    size_t read;      /* the place after the record that was read; 0 where there is a refusal */
+    size_t written;   /* the place after the record that was written; 0 where there is a refusal */
+} nuthkolla_conversion;
+
+/* Converts the call record at place `at` of `bytes` to the wanted edition, 1 or 2, and writes it by the writer's rules at place
+ * `place` of `out`, whose other bytes are kept. It has at most NUTHKOLLA_CALL_BYTES in either edition. Going and coming back gives
+ * the same call, bit for bit, every NaN as one. */
+nuthkolla_conversion nuthkolla_convert_record(
+    const uint8_t *bytes, size_t length, size_t at, uint32_t edition, uint8_t *out, size_t out_length, size_t place);
 
 /* ---- the turn to come */
 

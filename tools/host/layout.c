@@ -136,6 +136,10 @@ int main(void)
     AT(nuthkolla_agreed, refusal);
     AT(nuthkolla_agreed, field);
     AT(nuthkolla_agreed, call);
+    SIZE(nuthkolla_conversion);
+    AT(nuthkolla_conversion, refusal);
+    AT(nuthkolla_conversion, read);
+    AT(nuthkolla_conversion, written);
     SIZE(nuthkolla_path);
     AT(nuthkolla_path, refusal);
     AT(nuthkolla_path, reason);

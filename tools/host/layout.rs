@@ -152,6 +152,10 @@ fn main() {
     at!("nuthkolla_agreed.refusal", ffi::Agreed, refusal);
     at!("nuthkolla_agreed.field", ffi::Agreed, field);
     at!("nuthkolla_agreed.call", ffi::Agreed, call);
+    size!("nuthkolla_conversion", ffi::Conversion);
+    at!("nuthkolla_conversion.refusal", ffi::Conversion, refusal);
+    at!("nuthkolla_conversion.read", ffi::Conversion, read);
+    at!("nuthkolla_conversion.written", ffi::Conversion, written);
     size!("nuthkolla_path", ffi::Path);
     at!("nuthkolla_path.refusal", ffi::Path, refusal);
     at!("nuthkolla_path.reason", ffi::Path, reason);

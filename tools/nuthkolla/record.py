@@ -136,9 +136,24 @@ def good_call_map(bit_map):
     return bit_map >> len(CALL_SIZES) == 0 and bit_map & 1 and bit_map & LEG_BITS not in HALF_LEGS
 
 
-def read_call(data, place):
-    """The call at a place, and the place after it."""
-    fields, after = read_fields(data, place, CALL_MAP_BYTES, good_call_map, CALL_SIZES)
+# The second edition of the call record, document 02's K14: this bit stands with no field, and altitude, position z and
+# velocity z have their sign bit flipped. The desk program does not read it.
+SECOND_EDITION = 1 << 22
+DOWN_BITS, SIGN = (11, 15, 18), 1 << 31
+
+
+def is_second(data, place):
+    """Whether the call record at a place is one of the second edition."""
+    return int.from_bytes(data[place : place + CALL_MAP_BYTES], "little") & SECOND_EDITION != 0
+
+
+def read_call(data, place, either=False):
+    """The call at a place, and the place after it; with either, of both editions."""
+    second = either and is_second(data, place)
+    good_map = (lambda bit_map: good_call_map(bit_map & ~SECOND_EDITION)) if second else good_call_map
+    fields, after = read_fields(data, place, CALL_MAP_BYTES, good_map, CALL_SIZES)
+    if second:
+        fields.update({bit: fields[bit] ^ SIGN for bit in DOWN_BITS if bit in fields})
     kind, regime = fields[KIND_BIT], fields.get(REGIME_BIT, PLANE)
     if kind >= len(KINDS) or regime >= len(REGIMES):
         raise Refusal(BAD_BYTE, place)
@@ -167,16 +182,16 @@ def call_bytes(call):
 # ---- recordings
 
 
-def read_recording(data):
+def read_recording(data, either=False):
     """The configuration (none where its record is refused), the calls, and the refusal that ended them or none.
 
-    Refusal 9 is the desk program's own: any number of calls is read here.
+    Refusal 9 is the desk program's own: any number of calls is read here. With either, calls of both editions are read.
     """
     configuration, calls = None, []
     try:
         configuration, place = read_configuration(data)
         while place < len(data):
-            call, place = read_call(data, place)
+            call, place = read_call(data, place, either)
             calls.append(call)
     except Refusal as refusal:
         return configuration, calls, refusal

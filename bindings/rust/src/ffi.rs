@@ -135,6 +135,14 @@ pub const DISPLAY: u32 = 2;
 
 #[repr(C)]
 #[derive(Clone, Copy, Debug)]
+pub struct Conversion {
+    pub refusal: u32,
+    pub read: usize,
+    pub written: usize,
+}
+
+#[repr(C)]
+#[derive(Clone, Copy, Debug)]
 pub struct RouteAnswer {
     pub answer: Answer,
     pub number: u32,
@@ -183,6 +191,15 @@ extern "C" {
     ) -> Place;
     pub fn nuthkolla_compact(bytes: *mut u8, length: usize) -> Compaction;
     pub fn nuthkolla_agree(of_box: *const u8, box_length: usize, of_display: *const u8, display_length: usize) -> Agreed;
+    pub fn nuthkolla_convert_record(
+        bytes: *const u8,
+        length: usize,
+        at: usize,
+        edition: u32,
+        out: *mut u8,
+        out_length: usize,
+        place: usize,
+    ) -> Conversion;
     pub fn nuthkolla_draw_path(guidance: Guidance, call: Call, steps: usize, out: *mut f32, length: usize) -> Path;
     pub fn nuthkolla_default_config() -> crate::PlaneGuidanceConfig;
     pub fn nuthkolla_validate(config: crate::PlaneGuidanceConfig) -> u32;

@@ -556,6 +556,49 @@ pub fn agree(of_box: &[u8], of_display: &[u8]) -> Result<Agreement, (End, Record
     Ok(Agreement::Part { box_call: found.box_call, display_call: found.display_call })
 }
 
+/// An edition of the call record. In the second, altitude, position z and velocity z are positive downward.
+#[derive(Clone, Copy, Debug, PartialEq)]
+pub enum Edition {
+    First,
+    Second,
+}
+
+/// Where a conversion ended: the place after the record that was read, and the one after the record that was written.
+#[derive(Clone, Copy, Debug, PartialEq)]
+pub struct Converted {
+    pub read: usize,
+    pub written: usize,
+}
+
+/// Converts the call record at the place `at` of `bytes` to the wanted edition, and writes it from the place `place` of `out` on;
+/// the other bytes are kept. Only this function reads the second edition: others refuse it with 6.
+///
+/// # Errors
+///
+/// Refusals 5, 6 and 7 of the record, 15 where it is of the wanted edition already, 8; `out` is kept.
+///
+/// ```
+/// use nuthkolla::{convert_record, Converted, Edition, Refusal};
+///
+/// let down = [0x05, 0x08, 0x40, 0x00, 0x03, 0x00, 0x00, 0x80, 0x3f, 0x00, 0x00, 0x80, 0xbf];
+/// let mut up = [0; 13];
+/// assert_eq!(convert_record(&down, 0, Edition::First, &mut up, 0), Ok(Converted { read: 13, written: 13 }));
+/// assert_eq!(up, [0x05, 0x08, 0x00, 0x00, 0x03, 0x00, 0x00, 0x80, 0x3f, 0x00, 0x00, 0x80, 0x3f]);
+/// assert_eq!(convert_record(&down, 0, Edition::Second, &mut up, 0), Err(Refusal::Already));
+/// ```
+pub fn convert_record(bytes: &[u8], at: usize, wanted: Edition, out: &mut [u8], place: usize) -> Result<Converted, Refusal> {
+    let edition = match wanted {
+        Edition::First => 1,
+        Edition::Second => 2,
+    };
+    // Safety: both buffers are borrowed for the call, and do not overlap.
+    let done = unsafe {
+        ffi::nuthkolla_convert_record(bytes.as_ptr(), bytes.len(), at, edition, out.as_mut_ptr(), out.len(), place)
+    };
+    Refusal::of(done.refusal)?;
+    Ok(Converted { read: done.read, written: done.written })
+}
+
 fn numbers_of(call: &Call) -> ffi::Call {
     let Call::Guide { dt, regime, input, state, pitch_cap_rad } = call else {
         return ffi::Call { regime: 1, ..Default::default() };

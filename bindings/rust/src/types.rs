@@ -419,6 +419,8 @@ pub enum Refusal {
     Right,
     /// 14: no change is left to take back.
     NothingKept,
+    /// 15: a record is already of the wanted edition.
+    Already,
 }
 
 impl Refusal {
@@ -439,6 +441,7 @@ impl Refusal {
             Refusal::Steps => 12,
             Refusal::Right => 13,
             Refusal::NothingKept => 14,
+            Refusal::Already => 15,
         }
     }
 
@@ -458,6 +461,7 @@ impl Refusal {
             12 => Refusal::Steps,
             13 => Refusal::Right,
             14 => Refusal::NothingKept,
+            15 => Refusal::Already,
             _ => Refusal::Room,
         })
     }

@@ -81,7 +81,7 @@ map-is c = refl
 map-below : (c : Call) → Map c < 4194304
 map-below c = rw (map-is c) (rw fields-long at (map-small callFields (Flags c) (valuesOf (partsOf c))))
 
-values-held : (c : Call) → CallF32 c → Held callFields (valuesOf (partsOf c))
+pub values-held : (c : Call) → CallF32 c → Held callFields (valuesOf (partsOf c))
 unfolding Held valuesOf
 values-held c f = rw fields-are (omega (arith, kind-le c), (omega (arith, regime-le c), bits-held (replicate 20 0) (partsOf c .numbers) (parts-long c) f))
 
@@ -132,7 +132,7 @@ kind-stands c =
     let b : Map c / 2 ^ 0 % 2 ≡ 1 = bit-is c 0 (lit< tt) in
     eq-eqb (Map c % 2) 1 (omega arith)
 
-complete-is : (c : Call) → complete (Map c) ≡ true
+pub complete-is : (c : Call) → complete (Map c) ≡ true
 unfolding complete
 complete-is c =
     let nine = rw missing-9 at (bit-is c 9 (lit< tt)) in
@@ -637,7 +637,7 @@ module _ (s : List ℕ) (at : ℕ) where
         inverted (hasBytes s at 4) (complete mapAt) (hasBytes s at (4 + sizeOf callFields mapAt)) (unknown (Kind .value) (Regime .value)) _ c _ next
         (rw values-read at e)
 
-    held : CallF32 c
+    pub held : CallF32 c
     held =
         subst CallF32 (answered .1)
         (call-fits mapAt Floats

@@ -81,7 +81,7 @@ pub enum ReadCall {
 }
 
 // What refusal 6 asks of a map: no unnamed bit, the kind bit, both parts of a leg or neither.
-fn is_complete(map: u64) -> bool
+pub fn is_complete(map: u64) -> bool
     ensures { λ r. ⌜ r ≡ spec.complete map ⌝ }
 {
     if FIRST_UNNAMED <= map {

@@ -76,6 +76,11 @@ pub fn records(seed: u64, count: usize) -> Vec<u8> {
     damaged::entries(&mut Random::new(seed), count)
 }
 
+/// A call record, often damaged or not at all.
+pub fn call_record(random: &mut Random, damaged: bool) -> Vec<u8> {
+    if damaged { damaged::damaged_call(random) } else { record::fields_bytes(&wild::first_fields(random)) }
+}
+
 /// The fields of a call record, as words; any may stand, used by the kind or not.
 pub type Fields = [Option<u32>; NAMED_BITS as usize];
 

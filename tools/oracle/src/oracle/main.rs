@@ -7,6 +7,7 @@ mod codec;
 mod compact;
 mod configuration;
 mod desk;
+mod edition;
 mod flown;
 mod functions;
 mod generate;
@@ -241,6 +242,8 @@ fn main() {
         Some("generate-routes") if rest.len() == 2 => output(&route::generate(number(rest, 0), number(rest, 1) as usize)),
         Some("callers") => output(callers::lines(&input()).as_bytes()),
         Some("generate-callers") if rest.len() == 2 => output(&callers::generate(number(rest, 0), number(rest, 1) as usize)),
+        Some("editions") => output(edition::lines(&input()).as_bytes()),
+        Some("generate-editions") if rest.len() == 2 => output(&edition::generate(number(rest, 0), number(rest, 1) as usize)),
         Some("records") => output(codec::lines(&input()).as_bytes()),
         Some("evaluate") => output(evaluate(&String::from_utf8_lossy(&input())).as_bytes()),
         Some("functions") => output(list_functions().as_bytes()),

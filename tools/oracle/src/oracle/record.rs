@@ -104,26 +104,34 @@ pub fn read_configuration(bytes: &[u8], place: usize) -> Result<(Numbers, usize)
 }
 
 /// The fields of a call record as they stand: bytes at bits 0 and 1, numbers from bit 2.
-type Fields = [Option<u32>; NAMED_BITS as usize];
+pub type Fields = [Option<u32>; NAMED_BITS as usize];
 
 fn field_bytes(bit: u32) -> usize {
     if bit <= REGIME { 1 } else { 4 }
 }
 
-fn map_is_good(map: u32) -> bool {
+pub fn map_is_good(map: u32) -> bool {
     let leg = map >> LEG & 3;
     map >> NAMED_BITS == 0 && map & 1 == 1 && (leg == 0 || leg == 3)
 }
 
-fn read_fields(bytes: &[u8], place: usize) -> Result<(Fields, usize), u32> {
+/// The map of a call record at a place.
+pub fn map_at(bytes: &[u8], place: usize) -> Result<u32, u32> {
     let left = bytes.len().checked_sub(place).ok_or(SHORT)?;
-    if left < CALL_MAP_BYTES {
-        return Err(SHORT);
-    }
-    let map = number_at(bytes, place);
+    if left < CALL_MAP_BYTES { Err(SHORT) } else { Ok(number_at(bytes, place)) }
+}
+
+fn read_fields(bytes: &[u8], place: usize) -> Result<(Fields, usize), u32> {
+    let map = map_at(bytes, place)?;
     if !map_is_good(map) {
         return Err(BAD_MAP);
     }
+    fields_at(bytes, place, map)
+}
+
+/// The fields behind a map, and the place after them.
+pub fn fields_at(bytes: &[u8], place: usize, map: u32) -> Result<(Fields, usize), u32> {
+    let left = bytes.len() - place;
     let standing = |bit: &u32| map >> bit & 1 == 1;
     let size: usize = (0..NAMED_BITS).filter(standing).map(field_bytes).sum();
     if left < CALL_MAP_BYTES + size {
@@ -142,13 +150,18 @@ fn read_fields(bytes: &[u8], place: usize) -> Result<(Fields, usize), u32> {
 /// A call record read at a place, and the place after it.
 pub fn read_call(bytes: &[u8], place: usize) -> Result<(Call, usize), u32> {
     let (fields, next) = read_fields(bytes, place)?;
+    Ok((call_of(&fields)?, next))
+}
+
+/// The call that fields make, or number 7.
+pub fn call_of(fields: &Fields) -> Result<Call, u32> {
     let kind = fields[KIND as usize].unwrap_or(0);
     let regime = fields[REGIME as usize].unwrap_or(1);
     if kind > 6 || regime > 1 {
         return Err(BAD_BYTE);
     }
     if kind == 0 {
-        return Ok((Call::Prime, next));
+        return Ok(Call::Prime);
     }
     let given = |bit: u32| fields[bit as usize].map(f32::from_bits);
     let number = |bit: u32| given(bit).unwrap_or(0.0);
@@ -163,7 +176,7 @@ pub fn read_call(bytes: &[u8], place: usize) -> Result<(Call, usize), u32> {
         _ => Command::AbsoluteRate(four),
     };
     let regime = if regime == 0 { Regime::Copter } else { Regime::Plane };
-    Ok((Call::Guide { regime, time_step: number(TIME_STEP), command }, next))
+    Ok(Call::Guide { regime, time_step: number(TIME_STEP), command })
 }
 
 fn waypoint(given: impl Fn(u32) -> Option<f32>) -> Waypoint {
@@ -198,7 +211,7 @@ pub fn configuration_bytes(numbers: &Numbers) -> Vec<u8> {
 }
 
 /// The fields that the writer lets stand: what missing would give is left out.
-fn written_fields(call: &Call) -> Fields {
+pub fn written_fields(call: &Call) -> Fields {
     let mut fields: Fields = [None; NAMED_BITS as usize];
     let Call::Guide { regime, time_step, command } = call else {
         fields[KIND as usize] = Some(0);

@@ -54,7 +54,7 @@ fn damage_configuration(random: &mut Random, bytes: &mut Vec<u8>) {
 }
 
 /// A call record with up to three faults; none now and then.
-fn damaged_call(random: &mut Random) -> Vec<u8> {
+pub fn damaged_call(random: &mut Random) -> Vec<u8> {
     if random.once_in(30) {
         return (0..1 + random.below(90)).map(|_| random.below(256) as u8).collect();
     }

@@ -1,0 +1,3 @@
+pub mod EditionBack
+pub mod ThereAndBack
+pub mod Cases

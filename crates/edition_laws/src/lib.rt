@@ -1,0 +1,1 @@
+// Laws of the two editions of the call record: definitions and proofs, no code.

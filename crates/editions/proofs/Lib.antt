@@ -1,0 +1,4 @@
+pub mod FlipLaw
+pub mod Loops
+pub mod Reading
+pub mod Writing

@@ -1,0 +1,2 @@
+-- What a host gets of a record that is converted.
+pub mod Conversion
