@@ -25,27 +25,28 @@ WEB = pathlib.Path(__file__).resolve().parent / "web"
 MAP_WIDTH, MAP_HEIGHT = 500, 512
 MAP = (66, 30, 490, 462)  # left, top, right, bottom
 STRIPS_WIDTH, STRIPS_LEFT, STRIPS_RIGHT, STRIPS_TOP = 500, 72, 404, 30
-STRIP_HEIGHT, STRIP_GAP = 84, 30
+STRIP_HEIGHT, STRIP_GAP = 74, 28
 
-# What is told of a call: its name, its title, how it stands on the page.
-TILES = [
-    ("call", "Call", "number"),
-    ("time", "Time from the first call", ""),
-    ("roll", "Roll", "number"),
-    ("pitch", "Pitch", "number"),
-    ("thrust", "Thrust", "number"),
-    ("yaw", "Yaw", "number"),
-    ("off", "Off the line", "number"),
-    ("guard", "Stall guard", "number"),
-    ("height", "Height", ""),
-    ("airspeed", "Airspeed", ""),
-    ("position", "Position", "two"),
-    ("refusal", "Refusal", "two"),
-    ("command", "Command", "wide"),
-    ("laws", "Laws", "wide"),
-    ("turn", "Turn to come", "wide"),
-    ("line", "Line of the desk program, numbers as bits", "wide"),
-]
+# What is told of a call by its name and title: what stays in sight, and what stands below it.
+NUMBERS = {
+    "call": "Call",
+    "roll": "Roll",
+    "pitch": "Pitch",
+    "yaw": "Yaw",
+    "thrust": "Thrust",
+    "off": "Off the line",
+    "guard": "Stall guard",
+    "height": "Height",
+    "airspeed": "Airspeed",
+}
+DETAILS = {
+    "command": "Command",
+    "laws": "Laws",
+    "refusal": "Refusal",
+    "turn": "Turn to come",
+    "position": "Position",
+    "line": "Line of the desk program, numbers as bits",
+}
 ACCEPTED, NO_GUARD, GUARD = "none", "does not stand", "▲ stands: thrust at its top"
 # Tiles that are marked, but for these words.
 ALARMS = {"refusal": [ACCEPTED], "guard": [NO_GUARD]}
@@ -55,11 +56,11 @@ ALARMS = {"refusal": [ACCEPTED], "guard": [NO_GUARD]}
 
 
 def told_call(replay, n):
-    """What is told of a call, by the names of TILES; what is not there is empty."""
+    """What is told of a call, by name."""
     moment = replay.flown[n]
+    time = f"{moment.time:.1f} s" if moment.time < 1e6 else f"{moment.time:g} s"
     words = {
-        "call": f"{moment.number} of {len(replay.flown)}",
-        "time": f"{moment.time:.1f} s" if moment.time < 1e6 else f"{moment.time:g} s",
+        "call": f"{moment.number} of {len(replay.flown)}, at {time}",
         "guard": GUARD if replay.guard[n] else NO_GUARD,
         "command": command_words(moment.call),
         "laws": law_words(moment.answer),
@@ -112,7 +113,7 @@ def recording_data(replay, time_scale):
         "from": packed("I", [sum_ for sum_ in sums(counts)]),
         "points": points,
         "marks": packed("B", marks(flown)),
-        "words": {name: column([words.get(name, "") for words in told]) for name in [*(t[0] for t in TILES), "said"]},
+        "words": {name: column([words.get(name, "") for words in told]) for name in [*NUMBERS, *DETAILS, "said"]},
     }
 
 
@@ -181,14 +182,11 @@ def strips_text(replay, hidden):
 # ---- words
 
 
-def tiles_text(replays):
+def tiles_text(titles, replays):
+    """Yaw has a tile where some answer has a yaw rate."""
     rates = any(m.answer.kind == "rate" for replay in replays for m in replay.flown)
-    rows = [
-        f'<div class="tile {css}" id="tile-{name}"><dt>{title}</dt><dd>—</dd></div>'
-        for name, title, css in TILES
-        if name != "yaw" or rates
-    ]
-    return "\n".join(rows)
+    shown = {name: title for name, title in titles.items() if name != "yaw" or rates}
+    return "\n".join(f'<div class="tile" id="tile-{name}"><dt>{title}</dt><dd>—</dd></div>' for name, title in shown.items())
 
 
 def shown_text(replays):
@@ -276,7 +274,8 @@ def flight_text(replays, agreement, route):
         "flight.html",
         agreement=agreement_text(agreement, replays),
         shown=shown_text(replays),
-        tiles=tiles_text(replays),
+        numbers=tiles_text(NUMBERS, replays),
+        details=tiles_text(DETAILS, replays),
         map=map_text(ground, replays, agreement and agreement.calls),
         map_box=f"0 0 {MAP_WIDTH} {MAP_HEIGHT}",
         clip=f'x="{left}" y="{top}" width="{right - left}" height="{bottom - top}"',

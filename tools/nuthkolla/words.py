@@ -64,9 +64,14 @@ def nose_words(bits):
     return "nose " + turned(bits, "°", "level", "down", "up")
 
 
-def thrust_words(bits):
+def share_words(bits):
+    """Thrust, of full thrust."""
     share = value(bits)
-    return f"thrust {share * 100:.0f} %" if math.isfinite(share) else "thrust not a number"
+    return f"{share * 100:.0f} %" if math.isfinite(share) else "not a number"
+
+
+def thrust_words(bits):
+    return f"thrust {share_words(bits)}"
 
 
 def distance_words(bits):
@@ -171,10 +176,10 @@ def sensor_words(call):
     if call.kind != "waypoint":
         return {}
     position, airspeed = call.numbers["position"], call.numbers.get("airspeed")
-    cruise = f"demanded {sized(call.numbers['cruise'][0])} m/s"
+    cruise = f"demand {sized(call.numbers['cruise'][0])} m/s"
     return {
         "position": place_words(*position[:2]),
-        "height": f"{sized(position[2])} m, demanded {sized(call.numbers['altitude'][0])} m",
+        "height": f"{sized(position[2])} m, demand {sized(call.numbers['altitude'][0])} m",
         "airspeed": f"{sized(airspeed[0])} m/s, {cruise}" if airspeed else f"none reported, {cruise}",
     }
 
@@ -184,8 +189,9 @@ def setpoint_words(answer):
     if answer.kind in ("refused", "prime"):
         return {}
     if answer.kind == "rate":
-        return dict(zip(("roll", "pitch", "yaw", "thrust"), rate_parts(answer.numbers)))
-    words = [bank_words(answer.numbers[0]), nose_words(answer.numbers[1]), thrust_words(answer.numbers[2])]
+        words = [*rate_parts(answer.numbers)[:3], share_words(answer.numbers[3])]
+        return dict(zip(("roll", "pitch", "yaw", "thrust"), words))
+    words = [bank_words(answer.numbers[0]), nose_words(answer.numbers[1]), share_words(answer.numbers[2])]
     found = dict(zip(("roll", "pitch", "thrust"), words))
     if answer.laws:
         found["off"] = "idle: no line" if answer.laws[0] == "idle" else distance_words(answer.numbers[3])
