@@ -60,7 +60,7 @@ def told_call(replay, n):
     moment = replay.flown[n]
     time = f"{moment.time:.1f} s" if moment.time < 1e6 else f"{moment.time:g} s"
     words = {
-        "call": f"{moment.number} of {len(replay.flown)}, at {time}",
+        "call": f"{moment.number} of {len(replay.flown)}\nat {time}",
         "guard": GUARD if replay.guard[n] else NO_GUARD,
         "command": command_words(moment.call),
         "laws": law_words(moment.answer),
@@ -69,7 +69,8 @@ def told_call(replay, n):
         "line": replay.lines[n],
         "said": f"call {moment.number}, {call_words(moment.call, moment.answer)}",
     }
-    return words | sensor_words(moment.call) | setpoint_words(moment.answer)
+    reported = {name: told.replace(", demand", "\ndemand") for name, told in sensor_words(moment.call).items()}
+    return words | reported | setpoint_words(moment.answer)
 
 
 # ---- what the script reads
@@ -156,7 +157,7 @@ def draw_parting(group, ground, replays, parting):
 
 def map_text(ground, replays, parting):
     names = " and ".join(replay.name for replay in replays)
-    page = svg("map", MAP_WIDTH, MAP_HEIGHT, f"The track of {names} over ground, north is up, with legs and loiter circles")
+    page = svg("ground", MAP_WIDTH, MAP_HEIGHT, f"The track of {names} over ground, north is up, with legs and loiter circles")
     draw_map(page, ground)
     draw_parting(page, ground, replays, parting)
     return text_of(page)

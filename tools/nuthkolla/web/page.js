@@ -51,7 +51,7 @@
   // ---- drawing: from metres and seconds to the drawing's units
   const scaled = (s, v) => s.start + ((v - s.low) / (s.high - s.low)) * (s.end - s.start);
   const within = (s, v) => s.low <= v && v <= s.high;
-  const unit = (v) => Math.max(-1e5, Math.min(1e5, v)).toFixed(1);
+  const unit = (v) => Math.max(-1e5, Math.min(1e5, v)).toFixed(2);
   const east = (v) => scaled(data.east, v), north = (v) => scaled(data.north, v);
 
   function head(fromX, fromY, x, y, size) {
@@ -68,7 +68,7 @@
     if (!seen) return;
     const vn = r.way[2 * at], ve = r.way[2 * at + 1];
     const turn = Number.isFinite(vn) && Number.isFinite(ve) ? (Math.atan2(ve, vn) * 180) / Math.PI : 0;
-    plane.setAttribute("transform", `translate(${unit(east(e))} ${unit(north(n))}) rotate(${turn.toFixed(0)})`);
+    plane.setAttribute("transform", `translate(${unit(east(e))} ${unit(north(n))}) scale(${1 / zoom}) rotate(${turn.toFixed(0)})`);
   }
 
   function drawAhead(r) {
@@ -77,7 +77,46 @@
     for (let i = r.from[at]; i < r.from[at + 1]; i++) points.push([east(r.points[2 * i + 1]), north(r.points[2 * i])]);
     const drawn = points.length > 1;
     by("ahead").setAttribute("d", drawn ? "M" + points.map(([x, y]) => `${unit(x)},${unit(y)}`).join("L") : "");
-    by("tip").setAttribute("d", drawn ? head(...points[points.length - 2], ...points[points.length - 1], 12) : "");
+    by("tip").setAttribute("d", drawn ? head(...points[points.length - 2], ...points[points.length - 1], 12 / zoom) : "");
+  }
+
+  // ---- a larger map, round the plane: it moves on where the plane comes near its edge
+  const whole = by("above").viewBox.baseVal;
+  const size = [whole.width, whole.height];
+  let zoom = 1, corner = [0, 0];
+  function look(x, y) {
+    corner = [x, y].map((v, i) => Math.max(0, Math.min(size[i] * (1 - 1 / zoom), v - size[i] / zoom / 2)));
+    const box = [...corner, size[0] / zoom, size[1] / zoom].map((v) => v.toFixed(2)).join(" ");
+    for (const id of ["ground", "above"]) by(id).setAttribute("viewBox", box);
+    by("where").style.setProperty("--zoom", zoom);
+    by("zoom").textContent = `× ${zoom}`;
+    drawBar();
+  }
+  function drawBar() {
+    by("bar").style.display = zoom > 1 ? "" : "none";
+    const perMetre = Math.abs((data.east.end - data.east.start) / (data.east.high - data.east.low)) * zoom;
+    const most = 160 / perMetre, ten = 10 ** Math.floor(Math.log10(most));
+    const metres = ten * [5, 2, 1].find((m) => m * ten <= most);
+    const long = (metres * perMetre) / zoom, x = corner[0] + 14 / zoom, y = corner[1] + size[1] / zoom - 14 / zoom, up = 6 / zoom;
+    by("bar").children[0].setAttribute("d", `M${x},${y - up}V${y}H${x + long}V${y - up}`);
+    by("bar").children[1].textContent = `${metres} m`;
+    by("bar").children[1].setAttribute("x", x + up);
+    by("bar").children[1].setAttribute("y", y - up);
+  }
+  function planeAt() {
+    const r = recordings[shown], x = east(r.place[2 * at + 1]), y = north(r.place[2 * at]);
+    return plane.style.display === "none" ? [corner[0] + size[0] / zoom / 2, corner[1] + size[1] / zoom / 2] : [x, y];
+  }
+  function follow() {
+    const [x, y] = planeAt();
+    const near = (v, i) => v < corner[i] + (0.2 * size[i]) / zoom || v > corner[i] + (0.8 * size[i]) / zoom;
+    if (zoom > 1 && (near(x, 0) || near(y, 1))) look(x, y);
+  }
+  function enlarge(by) {
+    const centre = planeAt();
+    zoom = Math.max(1, Math.min(16, zoom * by));
+    look(...centre);
+    draw();
   }
 
   // ---- a call
@@ -98,6 +137,7 @@
     slider.setAttribute("aria-valuetext", word("said"));
     if (document.activeElement !== number) number.value = at + 1;
     drawPlane(r);
+    follow();
     drawAhead(r);
     const x = unit(scaled(r.scale, r.time[at]));
     r.cursor.setAttribute("transform", `translate(${x} 0)`);
@@ -168,6 +208,9 @@
   by("on").addEventListener("click", () => go(at + 1));
   by("previous").addEventListener("click", () => mark(-1));
   by("next").addEventListener("click", () => mark(1));
+  by("larger").addEventListener("click", () => enlarge(2));
+  by("smaller").addEventListener("click", () => enlarge(1 / 2));
+  by("whole").addEventListener("click", () => enlarge(0));
   document.querySelectorAll("input[name=shown]").forEach((e) => e.addEventListener("change", () => pick(Number(e.value))));
   document.querySelectorAll("button[data-call]").forEach((e) => e.addEventListener("click", () => {
     const n = Number(e.dataset.recording);
@@ -190,6 +233,10 @@
     n: () => mark(1),
     p: () => mark(-1),
     t: turnTheme,
+    "+": () => enlarge(2),
+    "=": () => enlarge(2),
+    "-": () => enlarge(1 / 2),
+    0: () => enlarge(0),
   };
   // Keys that scroll the page do so where the slider is not in focus; a field has all of its own keys, a button its space.
   const scrolling = ["ArrowUp", "ArrowDown", "PageUp", "PageDown"];
@@ -216,8 +263,8 @@
     }
     return found;
   }
-  by("map").addEventListener("click", (e) => {
-    const [x, y] = placeOf(by("map"), e), place = recordings[shown].place;
+  by("ground").addEventListener("click", (e) => {
+    const [x, y] = placeOf(by("ground"), e), place = recordings[shown].place;
     go(nearest((i) => Math.hypot(east(place[2 * i + 1]) - x, north(place[2 * i]) - y)));
   });
   recordings.forEach((r, n) => {
