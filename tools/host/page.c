@@ -5,10 +5,10 @@
  *             path STEPS DRAWN STOPPED REASON POINTS
  *         STEPS fill SECONDS by the call's time step, 1 to 600. POINTS are 16 hexadecimal digits each, the bytes of north and east as
  *         two f32, low byte first: of the DRAWN steps every k-th and the last, so that there are at most 48.
- *     page agree < LENGTH BOX DISPLAY
- *         two recordings, the first after its length, four bytes, low byte first: `agree`, `part BOX DISPLAY` with the calls at which they
- *         part, or the refusal, `box ..` or `display ..`, as the desk program's last line says it; `unknown` where the archive has no
- *         nuthkolla_agree.
+ *     page agree < RECORDINGS
+ *         two recordings, the box's and the display's, each after its length, four bytes, low byte first: `agree`, `part BOX DISPLAY` with
+ *         the calls at which they part, or whose was refused, `box ..` or `display ..` and the desk program's last line of it; `unknown`
+ *         where the archive has no nuthkolla_agree.
  * A replay acts as the skipper. */
 #include "lines.h"
 #include "records.h"
@@ -89,6 +89,19 @@ static void flight(size_t length, double seconds)
 #ifdef WITH_AGREEMENT
 static void print_agreement(const uint8_t *box, size_t box_length, const uint8_t *display, size_t display_length)
 {
+    __auto_type a = nuthkolla_agree(box, box_length, display, display_length);
+    if (a.whose != 0)
+        printf(a.whose == 1 ? "box " : "display ");
+    if (a.refusal == 1)
+        printf("config refused %u\n", a.field);
+    else if (a.refusal != 0 && a.call == 0)
+        printf("config stopped %u\n", a.refusal);
+    else if (a.refusal != 0)
+        printf("%u stopped %u\n", a.call, a.refusal);
+    else if (a.agree != 0)
+        printf("agree\n");
+    else
+        printf("part %u %u\n", a.box_call, a.display_call);
 }
 #else
 static void print_agreement(const uint8_t *box, size_t box_length, const uint8_t *display, size_t display_length)
@@ -98,12 +111,21 @@ static void print_agreement(const uint8_t *box, size_t box_length, const uint8_t
 }
 #endif
 
+/* The length that stands at a place; 0 where none does, or it is too long. */
+static size_t length_at(size_t place, size_t length)
+{
+    if (length < 4 || place > length - 4)
+        return 0;
+    size_t found = input[place] | (size_t)input[place + 1] << 8 | (size_t)input[place + 2] << 16 | (size_t)input[place + 3] << 24;
+    return found <= length - place - 4 ? found : 0;
+}
+
 static int agree(size_t length)
 {
-    size_t box = length < 4 ? 0 : input[0] | (size_t)input[1] << 8 | (size_t)input[2] << 16 | (size_t)input[3] << 24;
-    if (length < 4 || box > length - 4)
+    size_t box = length_at(0, length), display = length_at(4 + box, length);
+    if (8 + box + display != length)
         return 2;
-    print_agreement(input + 4, box, input + 4 + box, length - 4 - box);
+    print_agreement(input + 4, box, input + 8 + box, display);
     return 0;
 }
 

@@ -3,7 +3,7 @@
 from typing import NamedTuple
 
 from nuthkolla import programs
-from nuthkolla.record import MOST_BYTES
+from nuthkolla.text import numbers_text
 from nuthkolla.words import command_words, ending_words
 
 
@@ -15,37 +15,40 @@ class Agreement(NamedTuple):
     calls: tuple
 
 
-def told_call(replay, number):
-    if number == 0:
-        return f"{replay.name}: no such call is left."
-    return f"{replay.name}: call {number}, {command_words(replay.flown[number - 1].call)}."
+def field_words(call, name):
+    """A field as the text form has it."""
+    if name == "regime":
+        return call.regime
+    return numbers_text(call.numbers[name]) if name in call.numbers else "none"
 
 
-def fields_apart(one, other):
-    """The names of what differs between two calls."""
+def apart_words(replays, numbers):
+    """What two calls ask for, and in what they differ."""
+    one, other = calls = [replay.flown[number - 1].call for replay, number in zip(replays, numbers)]
     if one.kind != other.kind:
-        return f"One is of kind {one.kind}, the other of kind {other.kind}."
+        return [f"{replay.name}: {command_words(call)}." for replay, call in zip(replays, calls)]
     names = [name for name in {**one.numbers, **other.numbers} if one.numbers.get(name) != other.numbers.get(name)]
     names += ["regime"] if one.regime != other.regime else []
-    return f"They differ in {', '.join(names)}." if names else ""
+    apart = [f"{name} is {field_words(one, name)} in {replays[0].name}, {field_words(other, name)} in {replays[1].name}" for name in names]
+    return [f"{replays[0].name}: {command_words(one)}.", f"They differ: {'; '.join(apart)}."]
 
 
 def parted(replays, calls):
     if calls == (0, 0):
-        return Agreement("The stories part: the configurations differ", ["No call was compared."], calls)
-    words = [told_call(replay, number) for replay, number in zip(replays, calls)]
+        names = [name for name in replays[0].configuration if replays[0].configuration[name] != replays[1].configuration[name]]
+        return Agreement("The stories part: the configurations differ", [f"They differ in {', '.join(names)}."], calls)
+    words = ["Refused calls, and holds that leave no trace, are not counted."]
     if all(calls):
-        words.append(fields_apart(*(replay.flown[number - 1].call for replay, number in zip(replays, calls))))
-    title = f"The stories part at call {calls[0]} of {replays[0].name} and call {calls[1]} of {replays[1].name}"
-    if not all(calls):
-        longer = replays[0] if calls[0] else replays[1]
-        title = f"The stories part: {longer.name} goes on at call {max(calls)}, the other has ended"
-    return Agreement(title, ["Refused calls and holds that leave no trace are not counted.", *filter(None, words)], calls)
+        title = f"The stories part at call {calls[0]} of {replays[0].name} and call {calls[1]} of {replays[1].name}"
+        return Agreement(title, words + apart_words(replays, calls), calls)
+    longer = replays[0] if calls[0] else replays[1]
+    told = f"Call {max(calls)} of {longer.name}: {command_words(longer.flown[max(calls) - 1].call)}."
+    return Agreement(f"The stories part: {longer.name} goes on at call {max(calls)}, the other has ended", [*words, told], calls)
 
 
 def read_agreement(box, display):
     """box, display: the replays of the two recordings."""
-    data = len(box.data).to_bytes(4, "little") + box.data + display.data
+    data = b"".join(len(replay.data).to_bytes(4, "little") + replay.data for replay in (box, display))
     words = programs.run([*programs.page_command(), "agree"], data).decode().split()
     if words == ["agree"]:
         return Agreement("The recordings tell one story", ["Every call that leaves a trace is the same in both, and so is its answer."], (0, 0))

@@ -211,8 +211,8 @@ def agreement_text(agreement, replays):
         for n, (replay, call) in enumerate(zip(replays, agreement.calls))
         if call
     ]
-    lines = "".join(f"<p>{html.escape(words)}</p>" for words in agreement.words)
-    return f'<section id="agreement"><h2>{html.escape(agreement.title)}</h2>{lines}{" ".join(buttons)}</section>'
+    words = html.escape(" ".join(agreement.words))
+    return f'<section id="agreement"><h2>{html.escape(agreement.title)}</h2><p>{words}</p>{" ".join(buttons)}</section>'
 
 
 def signs_text(flown, two, route):
