@@ -4,9 +4,10 @@ The page works out nothing: every number of it is one of the recording or of the
 """
 
 import base64
+import copy
 import html
+import itertools
 import json
-import math
 import pathlib
 import struct
 import xml.etree.ElementTree as ET
@@ -16,7 +17,7 @@ from nuthkolla.numbers import value
 from nuthkolla.paper import legend_items, plain_text, summary
 from nuthkolla.strips import Column, draw_over_time
 from nuthkolla.style import themed_style
-from nuthkolla.svg import add, cross, head, label, line, path
+from nuthkolla.svg import add, label, line, path
 from nuthkolla.words import call_words, command_words, law_words, refused_words, sensor_words, setpoint_words
 
 WEB = pathlib.Path(__file__).resolve().parent / "web"
@@ -107,23 +108,15 @@ def recording_data(replay, time_scale):
     points = base64.b64encode(b"".join(turn.points for turn in replay.turns)).decode()
     return {
         "name": replay.name,
-        "time": packed("f", [m.time for m in flown]),
+        "time": packed("d", [m.time for m in flown]),
         "scale": scale_of(time_scale),
         "place": packed("f", pairs(flown, "position")),
         "way": packed("f", pairs(flown, "velocity")),
-        "from": packed("I", [sum_ for sum_ in sums(counts)]),
+        "from": packed("I", list(itertools.accumulate(counts, initial=0))),
         "points": points,
         "marks": packed("B", marks(flown)),
         "words": {name: column([words.get(name, "") for words in told]) for name in [*NUMBERS, *DETAILS, "said"]},
     }
-
-
-def sums(counts):
-    total = 0
-    yield total
-    for count in counts:
-        total += count
-        yield total
 
 
 def script_text(data):
@@ -237,10 +230,10 @@ def signs_text(flown, two, route):
 def notes_text(ground, replays):
     """What is not on the map, and why a replay ended early, for each recording."""
     found = []
-    for replay, beside in zip(replays, (False, True)):
+    for replay in replays:
         lines = [f"The replay stopped: {replay.ending}"] if replay.ending else []
-        view = Ground.__new__(Ground)
-        view.__dict__.update(ground.__dict__, flown=replay.flown)
+        view = copy.copy(ground)
+        view.flown = replay.flown
         lines += map_notes(view)
         if lines:
             items = "".join(f"<li>{html.escape(words)}</li>" for words in lines)

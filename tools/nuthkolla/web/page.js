@@ -35,7 +35,7 @@
     return {
       ...r,
       words,
-      time: new Float32Array(bytes(r.time)),
+      time: new Float64Array(bytes(r.time)),
       place: new Float32Array(bytes(r.place)),
       way: new Float32Array(bytes(r.way)),
       from: new Uint32Array(bytes(r.from)),
