@@ -19,12 +19,23 @@ enum { MOST_CALLS = 4096, MOST_POINTS = 48 };
 
 static uint8_t input[1 << 24];
 
-/* ---- the archive's calls on a guidance */
+/* ---- the archive's calls on a guidance, with callers and without */
 
+#ifdef WITH_CALLERS
+static nuthkolla_answer run(nuthkolla_guidance *g, uint32_t what, const uint8_t *bytes, size_t length)
+{
+    return nuthkolla_run(g, NUTHKOLLA_SKIPPER, what, bytes, length);
+}
+
+static uint32_t guard(const nuthkolla_guidance *g) { return nuthkolla_report(*g, NUTHKOLLA_SKIPPER, NUTHKOLLA_STALL_GUARD).value; }
+#else
 static nuthkolla_answer run(nuthkolla_guidance *g, uint32_t what, const uint8_t *bytes, size_t length)
 {
     return nuthkolla_run(g, what, bytes, length);
 }
+
+static uint32_t guard(const nuthkolla_guidance *g) { return nuthkolla_stall_guard(g->tecs.underspeed); }
+#endif
 
 /* ---- a flight */
 
@@ -76,7 +87,7 @@ static void flight(size_t length, double seconds)
             return;
         }
         print_answer(stdout, number, &a);
-        printf("guard %u\n", nuthkolla_stall_guard(g.tecs.underspeed));
+        printf("guard %u\n", guard(&g));
         nuthkolla_call call = call_of(input + place);
         if (call.kind == NUTHKOLLA_WAYPOINT)
             print_path(&before, call, seconds);
@@ -89,9 +100,9 @@ static void flight(size_t length, double seconds)
 #ifdef WITH_AGREEMENT
 static void print_agreement(const uint8_t *box, size_t box_length, const uint8_t *display, size_t display_length)
 {
-    __auto_type a = nuthkolla_agree(box, box_length, display, display_length);
+    nuthkolla_agreed a = nuthkolla_agree(box, box_length, display, display_length);
     if (a.whose != 0)
-        printf(a.whose == 1 ? "box " : "display ");
+        printf(a.whose == NUTHKOLLA_BOX ? "box " : "display ");
     if (a.refusal == 1)
         printf("config refused %u\n", a.field);
     else if (a.refusal != 0 && a.call == 0)

@@ -194,7 +194,7 @@ def setpoint_words(answer):
     words = [bank_words(answer.numbers[0]), nose_words(answer.numbers[1]), share_words(answer.numbers[2])]
     found = dict(zip(("roll", "pitch", "thrust"), words))
     if answer.laws:
-        found["off"] = "idle: no line" if answer.laws[0] == "idle" else distance_words(answer.numbers[3])
+        found["off"] = "idle: no line" if answer.laws[0] == "idle" else distance_words(answer.numbers[3]).removesuffix(" of the line")
     return found
 
 
