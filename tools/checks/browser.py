@@ -11,6 +11,10 @@ import time
 
 NAMES = ("chromium", "chromium-browser", "google-chrome", "chrome")
 LONGEST = 30.0  # s that an answer may take
+# Keys by the numbers that a browser knows them by.
+CODES = {"Tab": 9, "Enter": 13, "PageUp": 33, "PageDown": 34, "End": 35, "Home": 36}
+CODES |= {"ArrowLeft": 37, "ArrowUp": 38, "ArrowRight": 39, "ArrowDown": 40}
+FRAME = "new Promise(r => requestAnimationFrame(() => requestAnimationFrame(() => r(1))))"
 
 
 def found():
@@ -104,7 +108,7 @@ class Browser:
             answer = self.message(until)
             if "method" in answer:
                 self.note(answer)
-        self.value("new Promise(r => requestAnimationFrame(() => requestAnimationFrame(() => r(1))))")
+        self.value(FRAME)
         return time.monotonic() - start
 
     def value(self, expression):
@@ -116,18 +120,17 @@ class Browser:
 
     def key(self, name, shift=False):
         """A key as a person presses it: a letter, a space, or a name such as ArrowRight."""
-        codes = {"ArrowLeft": 37, "ArrowUp": 38, "ArrowRight": 39, "ArrowDown": 40, "PageUp": 33, "PageDown": 34, "End": 35, "Home": 36, "Tab": 9, "Enter": 13}
-        code = codes.get(name, ord(name.upper()) if len(name) == 1 else 0)
+        code = CODES.get(name, ord(name.upper()) if len(name) == 1 else 0)
         given = {"key": name, "code": "Space" if name == " " else name, "windowsVirtualKeyCode": code, "modifiers": 8 * shift}
         text = {"text": name} if len(name) == 1 else {"text": "\r"} if name == "Enter" else {}
         self.ask("Input.dispatchKeyEvent", type="keyDown", **given, **text)
         self.ask("Input.dispatchKeyEvent", type="keyUp", **given)
-        self.value("new Promise(r => requestAnimationFrame(() => requestAnimationFrame(() => r(1))))")
+        self.value(FRAME)
 
     def click(self, x, y):
         for kind in ("mousePressed", "mouseReleased"):
             self.ask("Input.dispatchMouseEvent", type=kind, x=x, y=y, button="left", clickCount=1)
-        self.value("new Promise(r => requestAnimationFrame(() => requestAnimationFrame(() => r(1))))")
+        self.value(FRAME)
 
     def size(self, width, height, scale=1):
         self.ask("Emulation.setDeviceMetricsOverride", width=width, height=height, deviceScaleFactor=scale, mobile=width < 600)

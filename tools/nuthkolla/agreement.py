@@ -51,7 +51,8 @@ def read_agreement(box, display):
     data = b"".join(len(replay.data).to_bytes(4, "little") + replay.data for replay in (box, display))
     words = programs.run([*programs.page_command(), "agree"], data).decode().split()
     if words == ["agree"]:
-        return Agreement("The recordings tell one story", ["Every call that leaves a trace is the same in both, and so is its answer."], (0, 0))
+        told = "Every call that leaves a trace is the same in both, and so is its answer."
+        return Agreement("The recordings tell one story", [told], (0, 0))
     if words[0] == "part":
         return parted((box, display), tuple(map(int, words[1:])))
     if words[0] in ("box", "display"):

@@ -208,17 +208,22 @@ def agreement_text(agreement, replays):
     return f'<section id="agreement"><h2>{html.escape(agreement.title)}</h2><p>{words}</p>{" ".join(buttons)}</section>'
 
 
+def shape(css, corners):
+    """Draws corners round the middle of a sign."""
+    return lambda group, x, y: path(group, css, [(x + 14 + dx, y + dy) for dx, dy in [*corners, corners[0]]])
+
+
+PLANE_SIGN = shape("plane", [(0, -8), (6, 7), (0, 4), (-6, 7)]), "the plane at the call shown, pointing along its ground velocity"
+SECOND_SIGNS = [
+    (lambda group, x, y: line(group, "other", x, y, x + 28, y), "track of the second recording"),
+    (shape("parting", [(-7, -7), (7, -7), (7, 7), (-7, 7)]), "call at which the recordings part"),
+]
+ROUTE_SIGN = shape("route", [(0, -6), (6, 0), (0, 6), (-6, 0)]), "point of the route, P and its number"
+
+
 def signs_text(flown, two, route):
     """What each sign means."""
-    signs = [
-        (lambda g, x, y: path(g, "plane", [(x + 14, y - 8), (x + 20, y + 7), (x + 14, y + 4), (x + 8, y + 7), (x + 14, y - 8)]), "the plane at the call shown, pointing along its ground velocity"),
-        *legend_items(flown, ahead=True),
-    ]
-    if two:
-        signs.append((lambda g, x, y: line(g, "other", x, y, x + 28, y), "track of the second recording"))
-        signs.append((lambda g, x, y: add(g, "rect", "parting", x=x + 7, y=y - 7, width=14, height=14), "call at which the recordings part"))
-    if route:
-        signs.append((lambda g, x, y: path(g, "route", [(x + 14, y - 6), (x + 20, y), (x + 14, y + 6), (x + 8, y), (x + 14, y - 6)]), "point of the route, P and its number"))
+    signs = [PLANE_SIGN, *legend_items(flown, ahead=True), *(SECOND_SIGNS if two else []), *([ROUTE_SIGN] if route else [])]
     rows = []
     for draw, words in signs:
         small = ET.Element("svg", {"viewBox": "0 0 32 18", "aria-hidden": "true"})
