@@ -103,6 +103,13 @@ def check_keys(page, lines):
     page.key("t")
 
 
+def check_slider(page, last):
+    """A click in the middle of the slider goes to the middle of the flight."""
+    x, y = page.value("(r => [(r.left + r.right) / 2, (r.top + r.bottom) / 2])(document.getElementById('slider').getBoundingClientRect())")
+    page.click(x, y)
+    expect(abs(call_shown(page) - last / 2) < last / 50, f"a click in the slider's middle shows call {call_shown(page)}")
+
+
 def check_larger(page, lines, plain, calls):
     """A larger map shows the plane at its place too, and on the screen."""
     page.value("document.activeElement.blur()")
@@ -203,6 +210,7 @@ def check_browser(recording, file, lines, two):
         opened = page.open(file)
         placed = sum(check_call(page, number, lines, plain, calls) for number in sampled)
         check_keys(page, lines)
+        check_slider(page, len(lines))
         check_larger(page, lines, plain, calls)
         check_play(page)
         controls = check_focus(page)
@@ -224,7 +232,10 @@ def check_browser(recording, file, lines, two):
 def check_example(page, folder):
     """The example: calls that have no place too."""
     recording = encoded(EXAMPLE.read_text(), folder / "example")
-    write_page(folder / "example.html", recording, "--route", ROOT / "examples/shoal-route.txt")
+    route = ROOT / "examples/shoal-route.txt"
+    text = write_page(folder / "example.html", recording, "--route", route)
+    points = len([line for line in route.read_text().splitlines() if line.startswith("point ")])
+    expect(all(f">P{n}<" in text or "of the route P" in text for n in range(1, points + 1)), "not every point of the route is on the map")
     lines = EXAMPLE_LINES.read_text()
     plain = plain_words(recording, lines)
     _, calls, _ = read_recording(recording.read_bytes())

@@ -275,6 +275,9 @@ def aim_notes(ground):
         notes.append(f"{len(outside) - MOST_LISTED} more aims")
     if not ground.circle() and any(leg is None for _, leg in ground.aimed):
         notes.append(f"circles of {ground.radius:.3g} m, far larger than the map")
+    far = [n for n, place in enumerate(ground.route, 1) if not ground.within(place)]
+    if far:
+        notes.append(f"of the route P{listed(far)}")
     lost = [m for m in ground.flown if m.call.kind == "waypoint" and not aim_of(m.call)]
     return notes + [of_calls(lost, "with an aim that is not finite")]
 

@@ -25,7 +25,7 @@ WEB = pathlib.Path(__file__).resolve().parent / "web"
 # The drawings, in units of which a letter is some 7 wide: narrow, so that letters can be read at a phone's width.
 MAP_WIDTH, MAP_HEIGHT = 500, 512
 MAP = (66, 30, 490, 462)  # left, top, right, bottom
-STRIPS_WIDTH, STRIPS_LEFT, STRIPS_RIGHT, STRIPS_TOP = 500, 72, 404, 30
+STRIPS_WIDTH, STRIPS_LEFT, STRIPS_RIGHT, STRIPS_TOP = 500, 70, 392, 30
 STRIP_HEIGHT, STRIP_GAP = 74, 28
 
 # What is told of a call by its name and title: what stays in sight, and what stands below it.

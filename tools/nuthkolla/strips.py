@@ -81,7 +81,7 @@ STRIPS = [
     Strip("roll", "Roll, degrees, right (starboard) is positive", "°", True, setpoint(0, math.degrees), roll_limits),
     Strip("pitch", "Pitch, degrees, nose up is positive", "°", True, setpoint(1, math.degrees), pitch_limits),
     Strip("thrust", "Thrust, share of full thrust", "", True, setpoint(2, float), thrust_limits),
-    Strip("off", "Off the line, metres, right of it (starboard) is positive", " m", True, distance),
+    Strip("off", "Off the line, metres, starboard is positive", " m", True, distance),
     Strip(
         "height",
         "Height, metres",
@@ -197,11 +197,9 @@ def inside(number, scale):
     return number if number is not None and scale.within(number) else None
 
 
-def draw_outside(page, column, top, numbers, scale):
-    """In words: how many numbers the strip does not show."""
+def outside_words(numbers, scale):
     count = sum(not scale.within(v) for v in numbers)
-    if count:
-        label(page, "ink small end over", column.right - 6, top + 15, f"{count} call{'s' * (count > 1)} outside the strip")
+    return f"; {count} call{'s' * (count > 1)} outside" if count else ""
 
 
 def draw_strip(page, strip, column, configuration, top):
@@ -225,8 +223,7 @@ def draw_strip(page, strip, column, configuration, top):
     draw_demand(group, strip, column, scale)
     for run in runs(flown, lambda m: inside(strip.number(m), scale)):
         path(group, f"line {strip.name}", stairs(run, column, scale))
-    label(page, "ink", column.left, top - 9, strip.title)
-    draw_outside(page, column, top, numbers, scale)
+    label(page, "ink", column.left, top - 9, strip.title + outside_words(numbers, scale))
     frame(page, "frame", box)
     return scale
 
