@@ -30,7 +30,7 @@ class Browser:
     """One page. errors: what the page or its script said on the console that is no plain message."""
 
     def __init__(self):
-        self.folder = tempfile.TemporaryDirectory()
+        self.folder = tempfile.TemporaryDirectory(ignore_cleanup_errors=True)
         to_child, self.out = os.pipe()
         self.read, from_child = os.pipe()
         # Chromium reads on 3 and writes on 4; higher numbers first, so that none is overwritten.
@@ -44,6 +44,14 @@ class Browser:
         for fd in (to_child, from_child, *high):
             os.close(fd)
         self.buffer, self.sent, self.events, self.errors, self.session = b"", 0, [], [], None
+        try:
+            self.attach()
+        except (Trouble, OSError, StopIteration):
+            self.close()
+            raise Trouble(f"{words[0]} does not start") from None
+
+    def attach(self):
+        """To the one page that the browser has open."""
         target = next(t for t in self.ask("Target.getTargets")["targetInfos"] if t["type"] == "page")
         self.session = self.ask("Target.attachToTarget", targetId=target["targetId"], flatten=True)["sessionId"]
         for name in ("Page", "Runtime", "Log"):
@@ -53,10 +61,15 @@ class Browser:
         return self
 
     def __exit__(self, *_):
-        self.process.terminate()
+        self.close()
+
+    def close(self):
+        """By its own word, which ends its helpers too; else by force."""
         try:
+            self.session = None
+            self.ask("Browser.close")
             self.process.wait(10)
-        except subprocess.TimeoutExpired:
+        except (Trouble, OSError, subprocess.TimeoutExpired):
             self.process.kill()
             self.process.wait()
         os.close(self.out)

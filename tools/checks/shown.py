@@ -199,32 +199,30 @@ def check_moving(page):
     return page.value(script)
 
 
-def check_browser(recording, file, lines, two):
+def check_browser(page, recording, file, lines, two):
+    """page: a browser; file: the page of the recording with these lines; two: a page of two recordings."""
     plain = plain_words(recording, lines)
     lines = lines.splitlines()
     _, calls, _ = read_recording(recording.read_bytes())
     sampled = [1, 2, 41, 95, 138, 305, 355, 630, 1000, 1234, 2048, 3333, 4095, 4096]
-    with browser.Browser() as page:
-        page.size(1366, 768)
-        page.prefer("light")
-        opened = page.open(file)
-        placed = sum(check_call(page, number, lines, plain, calls) for number in sampled)
-        check_keys(page, lines)
-        check_slider(page, len(lines))
-        check_larger(page, lines, plain, calls)
-        check_play(page)
-        controls = check_focus(page)
-        check_clicks(page, 2000)
-        moved = check_moving(page)
-        expect(opened < 15 and moved < 250, f"opened in {opened:.1f} s, a move takes {moved:.0f} ms")
-        expect(page.value("performance.getEntriesByType('resource').length") == 0, "the page asks for something else")
-        check_example(page, file.parent)
-        check_two_shown(page, two)
-        check_sizes(page, file.parent / "example.html")
-        page.open(file.parent / "odd.html")
-        for name in ("End", "+", "Home", "n", "ArrowRight"):
-            page.key(name)
-        expect(not page.errors, f"the console has {page.errors[:3]}")
+    page.size(1366, 768)
+    page.prefer("light")
+    opened = page.open(file)
+    placed = sum(check_call(page, number, lines, plain, calls) for number in sampled)
+    check_keys(page, lines)
+    check_slider(page, len(lines))
+    check_larger(page, lines, plain, calls)
+    check_play(page)
+    controls = check_focus(page)
+    check_clicks(page, 2000)
+    moved = check_moving(page)
+    expect(opened < 15 and moved < 250, f"opened in {opened:.1f} s, a move takes {moved:.0f} ms")
+    expect(page.value("performance.getEntriesByType('resource').length") == 0, "the page asks for something else")
+    check_example(page, file.parent)
+    check_two_shown(page, two)
+    check_sizes(page, file.parent / "example.html")
+    check_odd(page, file.parent / "odd.html")
+    expect(not page.errors, f"the console has {page.errors[:3]}")
     print(f"in a browser: {len(sampled)} calls of 4,096 by the slider, {placed} planes at their places, keys, play, {controls} controls "
           f"by Tab, four sizes, no error; opened in {opened:.2f} s, a move of the slider in {moved:.0f} ms, two frames")
 
@@ -242,6 +240,13 @@ def check_example(page, folder):
     page.open(folder / "example.html")
     for number in (1, 17, 70, 92, 205, len(calls)):
         check_call(page, number, lines.splitlines(), plain, calls)
+
+
+def check_odd(page, file):
+    """Numbers at the ends of their range trouble no script."""
+    page.open(file)
+    for name in ("End", "+", "Home", "n", "ArrowRight"):
+        page.key(name)
 
 
 def check_two_shown(page, two):
