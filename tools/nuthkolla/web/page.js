@@ -121,7 +121,7 @@
 
   // ---- a call
   let spoken = 0;
-  function speak(r) {
+  function speak() {
     clearTimeout(spoken);
     spoken = setTimeout(() => { by("said").textContent = slider.getAttribute("aria-valuetext"); }, 400);
   }
@@ -141,7 +141,7 @@
     drawAhead(r);
     const x = unit(scaled(r.scale, r.time[at]));
     r.cursor.setAttribute("transform", `translate(${x} 0)`);
-    if (!timer) speak(r);
+    if (!timer) speak();
   }
 
   let asked = false;
@@ -157,7 +157,7 @@
     document.querySelectorAll(".strips").forEach((e, i) => { e.hidden = i !== n; });
     slider.max = number.max = recordings[n].time.length;
     plane.classList.toggle("second", n > 0);
-    show(at);
+    go(at);
   }
 
   // ---- playing: as time passes, so many times as fast
@@ -166,7 +166,6 @@
     cancelAnimationFrame(timer);
     timer = 0;
     playing.textContent = "Play";
-    playing.setAttribute("aria-pressed", "false");
   }
   function tick(now) {
     const time = recordings[shown].time;
@@ -185,7 +184,6 @@
     clock = time[at];
     last = performance.now();
     playing.textContent = "Pause";
-    playing.setAttribute("aria-pressed", "true");
     draw();
     timer = requestAnimationFrame(tick);
   }
