@@ -7,14 +7,13 @@ import time
 
 import browser
 from nuthkolla.record import read_recording
-from pages import EXAMPLE, EXAMPLE_LINES, ROOT, encoded, expect, plain_words, write_page
+from pages import EXAMPLE, EXAMPLE_LINES, ROOT, encoded, expect, held_by, plain_words, write_page
 
-# The plane's place in metres, read off the map: its place on the screen between the outer grid lines, which its labels name, and how
-# many metres a pixel is.
-PLANE = """(() => {
-  const plane = document.getElementById("plane");
-  if (plane.style.display === "none") return null;
-  const m = plane.getScreenCTM(), map = document.getElementById("ground"), frame = map.querySelector(".frame").getBoundingClientRect();
+# Places in metres, read off the map: between the outer grid lines on the screen, which the map's labels name. The plane, how many
+# metres a pixel is, and every point of the turn to come.
+SEEN = """(() => {
+  const plane = document.getElementById("plane"), ahead = document.getElementById("ahead");
+  const map = document.getElementById("ground"), frame = map.querySelector(".frame").getBoundingClientRect();
   const labels = [...map.querySelectorAll("text.soft")].map((t) => [Number(t.textContent), t.getBoundingClientRect()]);
   const grid = [...map.querySelectorAll("line.grid")].map((l) => l.getBoundingClientRect());
   const axis = (names, lines) => {
@@ -25,9 +24,14 @@ PLANE = """(() => {
   const upright = grid.filter((r) => r.height > r.width).map((r) => (r.left + r.right) / 2);
   const level = grid.filter((r) => r.width > r.height).map((r) => (r.top + r.bottom) / 2);
   const east = axis(named((r) => r.top > frame.bottom), upright), north = axis(named((r) => r.right < frame.left), level);
-  return [north[0] + (m.f - north[1]) * north[2], east[0] + (m.e - east[1]) * east[2], Math.abs(east[2])];
+  const metres = (x, y) => [north[0] + (y - north[1]) * north[2], east[0] + (x - east[1]) * east[2]];
+  const m = plane.getScreenCTM(), over = ahead.getScreenCTM();
+  const points = ahead.getAttribute("d").slice(1).split("L").filter(Boolean).map((pair) => {
+    const p = new DOMPoint(...pair.split(",").map(Number)).matrixTransform(over);
+    return metres(p.x, p.y);
+  });
+  return {plane: plane.style.display === "none" ? null : metres(m.e, m.f), pixel: Math.abs(east[2]), points};
 })()"""
-
 
 INSIDE = """((m, r) => r.left < m.e && m.e < r.right && r.top < m.f && m.f < r.bottom)(
   document.getElementById("plane").getScreenCTM(), document.getElementById("ground").getBoundingClientRect())"""
@@ -52,27 +56,52 @@ def call_shown(page):
     return int(tile(page, "call").split()[0])
 
 
-def check_call(page, number, lines, plain, calls):
+class Flight:
+    """A recording, its lines, the same in words, and what its page holds."""
+
+    def __init__(self, recording, lines, text):
+        self.lines, self.plain = lines.splitlines(), plain_words(recording, lines)
+        _, self.calls, _ = read_recording(recording.read_bytes())
+        (held,) = held_by(text)
+        first, points = held.numbers("from", "I"), held.numbers("points", "f")
+        self.turns = [list(zip(points[2 * a : 2 * b : 2], points[2 * a + 1 : 2 * b : 2])) for a, b in zip(first, first[1:])]
+
+    def place(self, number):
+        """North and east, as the recording has them, or none."""
+        bits = self.calls[number - 1].numbers.get("position")
+        return bits and struct.unpack("<2f", struct.pack("<2I", *bits[:2]))
+
+
+def near(places, others, apart):
+    """Whether two lists of places are one, within so many metres."""
+    return len(places) == len(others) and all(max(abs(a - b) for a, b in zip(p, q)) < apart for p, q in zip(places, others))
+
+
+def check_places(page, flight, number):
+    """The plane is where the call reports it, and the turn to come goes from there through the points that the page holds."""
+    place, seen = flight.place(number), page.value(SEEN)
+    if place is None:
+        expect(seen["plane"] is None and not seen["points"], f"call {number} has no place, and the page shows {seen}")
+        return 0
+    expect(seen["plane"] and near([seen["plane"]], [place], seen["pixel"]), f"call {number} is at {place}; the page shows {seen['plane']}")
+    turn = [place, *flight.turns[number - 1]] if flight.turns[number - 1] else []
+    expect(near(seen["points"], turn, seen["pixel"]), f"call {number}: the turn to come is {turn[-1:]}; the page shows {seen['points'][-1:]}")
+    return 1
+
+
+def check_call(page, flight, number):
     """What is shown at a call is the desk program's line, its words, and the recording's place."""
     slide(page, number)
+    line, plain = flight.lines[number - 1], flight.plain[number - 1]
     expect(call_shown(page) == number, f"the slider at {number} shows call {tile(page, 'call')}")
-    expect(tile(page, "line") == lines[number - 1], f"call {number} shows the line {tile(page, 'line')!r}")
+    expect(tile(page, "line") == line, f"call {number} shows the line {tile(page, 'line')!r}")
     words = page.value("document.getElementById('slider').getAttribute('aria-valuetext')")
-    expect(words == f"call {plain[number - 1].replace(' ', ', ', 1)}", f"call {number} is told as {words!r}")
+    expect(words == f"call {plain.replace(' ', ', ', 1)}", f"call {number} is told as {words!r}")
     for name in ("roll", "pitch", "thrust", "off"):
         shown = tile(page, name)
-        expect(shown in ("—", "idle: no line") or shown in plain[number - 1], f"call {number}: {name} {shown!r} is not told")
-    refused = " refused " in lines[number - 1]
-    expect(("refused" in tile(page, "refusal")) == refused, f"call {number}: {tile(page, 'refusal')!r}")
-    bits = calls[number - 1].numbers.get("position")
-    found = page.value(PLANE)
-    if bits is None:
-        expect(found is None, f"call {number} has no place, and the page shows {found}")
-        return 0
-    north, east = struct.unpack("<2f", struct.pack("<2I", *bits[:2]))
-    near = found and max(abs(found[0] - north), abs(found[1] - east)) < found[2]
-    expect(near, f"call {number} is at {north}, {east}; the page shows {found}")
-    return 1
+        expect(shown in ("—", "idle: no line") or shown in plain, f"call {number}: {name} {shown!r} is not told")
+    expect(("refused" in tile(page, "refusal")) == (" refused " in line), f"call {number}: {tile(page, 'refusal')!r}")
+    return check_places(page, flight, number)
 
 
 def check_keys(page, lines):
@@ -110,14 +139,14 @@ def check_slider(page, last):
     expect(abs(call_shown(page) - last / 2) < last / 50, f"a click in the slider's middle shows call {call_shown(page)}")
 
 
-def check_larger(page, lines, plain, calls):
+def check_larger(page, flight):
     """A larger map shows the plane at its place too, and on the screen."""
     page.value("document.activeElement.blur()")
     for _ in range(3):
         page.key("+")
     expect(page.value("document.getElementById('zoom').textContent") == "× 8", "+ does not make the map larger")
     for number in (700, 703, 2500):
-        check_call(page, number, lines, plain, calls)
+        check_call(page, flight, number)
         expect(page.value(INSIDE), f"call {number}: the plane is not on the larger map")
     page.key("0")
     expect(page.value("document.getElementById('zoom').textContent") == "× 1", "0 does not show the whole map")
@@ -162,10 +191,10 @@ def check_clicks(page, number):
     x, y = page.value("(m => [m.e, m.f])(document.getElementById('plane').getScreenCTM())")
     slide(page, 1)
     page.click(x, y)
-    shown = page.value(PLANE)
+    shown = page.value(SEEN)["plane"]
     slide(page, number)
-    there = page.value(PLANE)
-    expect(math.dist(shown[:2], there[:2]) < 15, f"a click at call {number} goes to {shown}, not {there}")
+    there = page.value(SEEN)["plane"]
+    expect(math.dist(shown, there) < 15, f"a click at call {number} goes to {shown}, not {there}")
 
 
 def check_sizes(page, file):
@@ -201,17 +230,15 @@ def check_moving(page):
 
 def check_browser(page, recording, file, lines, two):
     """page: a browser; file: the page of the recording with these lines; two: a page of two recordings."""
-    plain = plain_words(recording, lines)
-    lines = lines.splitlines()
-    _, calls, _ = read_recording(recording.read_bytes())
+    flight = Flight(recording, lines, file.read_text("utf-8"))
     sampled = [1, 2, 41, 95, 138, 305, 355, 630, 1000, 1234, 2048, 3333, 4095, 4096]
     page.size(1366, 768)
     page.prefer("light")
     opened = page.open(file)
-    placed = sum(check_call(page, number, lines, plain, calls) for number in sampled)
-    check_keys(page, lines)
-    check_slider(page, len(lines))
-    check_larger(page, lines, plain, calls)
+    placed = sum(check_call(page, flight, number) for number in sampled)
+    check_keys(page, flight.lines)
+    check_slider(page, len(flight.lines))
+    check_larger(page, flight)
     check_play(page)
     controls = check_focus(page)
     check_clicks(page, 2000)
@@ -234,12 +261,10 @@ def check_example(page, folder):
     text = write_page(folder / "example.html", recording, "--route", route)
     points = len([line for line in route.read_text().splitlines() if line.startswith("point ")])
     expect(all(f">P{n}<" in text or "of the route P" in text for n in range(1, points + 1)), "not every point of the route is on the map")
-    lines = EXAMPLE_LINES.read_text()
-    plain = plain_words(recording, lines)
-    _, calls, _ = read_recording(recording.read_bytes())
+    flight = Flight(recording, EXAMPLE_LINES.read_text(), text)
     page.open(folder / "example.html")
-    for number in (1, 17, 70, 92, 205, len(calls)):
-        check_call(page, number, lines.splitlines(), plain, calls)
+    for number in (1, 17, 70, 92, 205, len(flight.calls)):
+        check_call(page, flight, number)
 
 
 def check_odd(page, file):
