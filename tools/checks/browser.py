@@ -64,7 +64,7 @@ class Browser:
         self.close()
 
     def close(self):
-        """By its own word, which ends its helpers too; else by force."""
+        """By its own word, which ends all of its processes; else by force."""
         try:
             self.session = None
             self.ask("Browser.close")
