@@ -19,13 +19,16 @@ NOTE_WIDTH = 76  # letters
 
 
 class Ground:
-    """The map's scales, in a box (left, top, right, bottom) of the page: equal metres east and north."""
+    """The map's scales, in a box (left, top, right, bottom) of the page: equal metres east and north.
 
-    def __init__(self, flown, configuration, box, ahead=None):
-        self.flown, self.box, self.ahead = flown, box, ahead
-        self.aimed, self.radius = aims(flown), value(configuration["loiter_radius_m"])
-        places = [m.place for m in flown if m.place]
-        corners = []
+    beside: the moments of a second recording; route: the places of a route's points.
+    """
+
+    def __init__(self, flown, configuration, box, ahead=None, beside=(), route=()):
+        self.flown, self.box, self.ahead, self.beside, self.route = flown, box, ahead, beside, route
+        self.aimed, self.radius = aims([*flown, *beside]), value(configuration["loiter_radius_m"])
+        places = [m.place for m in [*flown, *beside] if m.place]
+        corners = list(route)
         for at, leg in self.aimed:
             reach = 0 if leg else self.radius
             corners += [(at[0] + side, at[1] + side) for side in (-reach, reach)]
@@ -142,13 +145,22 @@ def draw_aim_numbers(group, ground):
             label(group, "ink name over", x + 10, y - 9, words)
 
 
+def draw_route(group, ground):
+    """The points of a route, with their numbers."""
+    for number, place in enumerate(ground.route, 1):
+        if ground.within(place):
+            x, y = ground(place)
+            path(group, "route", [(x, y - 6), (x + 6, y), (x, y + 6), (x - 6, y), (x, y - 6)])
+            label(group, "ink name over end", x - 8, y + 15, f"P{number}")
+
+
 # ---- the track
 
 
-def tracks(ground):
+def tracks(ground, flown):
     """The track in parts: a command of another kind, or a place that is not on the map, ends a part."""
     parts = [[]]
-    for moment in ground.flown:
+    for moment in flown:
         if moment.law and ground.within(moment.place):
             parts[-1].append(ground(moment.place))
         elif not moment.refused and moment.answer.kind != "prime":
@@ -156,7 +168,7 @@ def tracks(ground):
     return [part for part in parts if len(part) > 1]
 
 
-def draw_heads(group, part):
+def draw_heads(group, part, css="way"):
     """Heads along the track that show which way it was flown."""
     walked = BETWEEN_HEADS / 2
     for (x, y), (after_x, after_y) in zip(part, part[1:]):
@@ -164,7 +176,7 @@ def draw_heads(group, part):
         walked += length
         if length > 0 and walked >= BETWEEN_HEADS:
             walked = 0.0
-            head(group, "way", (after_x, after_y), ((after_x - x) / length, (after_y - y) / length), 10)
+            head(group, css, (after_x, after_y), ((after_x - x) / length, (after_y - y) / length), 10)
 
 
 def draw_point(group, moment, ground):
@@ -180,8 +192,15 @@ def draw_point(group, moment, ground):
         add(group, "circle", "point energy", cx=x, cy=y, r=1.9)
 
 
+def draw_beside(group, ground):
+    """The track of a second recording."""
+    for part in tracks(ground, ground.beside):
+        path(group, "other", part)
+        draw_heads(group, part, "other way")
+
+
 def draw_track(group, ground):
-    for part in tracks(ground):
+    for part in tracks(ground, ground.flown):
         path(group, "line track", part)
         draw_heads(group, part)
     for moment in ground.flown:
@@ -218,6 +237,8 @@ def draw_map(page, ground):
     group = clipped(page, "map", ground.box)
     draw_aims(group, ground)
     draw_track(group, ground)
+    draw_beside(group, ground)
+    draw_route(group, ground)
     draw_ahead(group, ground)
     draw_aim_numbers(group, ground)
     draw_ends(group, ground)
@@ -254,6 +275,9 @@ def aim_notes(ground):
         notes.append(f"{len(outside) - MOST_LISTED} more aims")
     if not ground.circle() and any(leg is None for _, leg in ground.aimed):
         notes.append(f"circles of {ground.radius:.3g} m, far larger than the map")
+    far = [n for n, place in enumerate(ground.route, 1) if not ground.within(place)]
+    if far:
+        notes.append(f"of the route P{listed(far)}")
     lost = [m for m in ground.flown if m.call.kind == "waypoint" and not aim_of(m.call)]
     return notes + [of_calls(lost, "with an aim that is not finite")]
 

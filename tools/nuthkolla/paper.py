@@ -2,6 +2,7 @@
 
 import xml.etree.ElementTree as ET
 
+from nuthkolla.flight import stall_guard
 from nuthkolla.ground import Ground, draw_map, draw_notes
 from nuthkolla.strips import Column, draw_over_time
 from nuthkolla.style import style
@@ -90,7 +91,7 @@ def draw_page(title, configuration, flown, ending, ahead=None):
     ground = Ground(flown, configuration, MAP, ahead)
     draw_map(page, ground)
     noted = draw_notes(page, ground, stopped(ending), MAP[0], MAP[3] + 70)
-    lowest = draw_over_time(page, Column(flown, STRIPS_LEFT, STRIPS_RIGHT), configuration, TOP)
+    lowest = draw_over_time(page, Column(flown, stall_guard(configuration, flown), STRIPS_LEFT, STRIPS_RIGHT), configuration, TOP)
     height = draw_legend(page, flown, ahead, max(lowest + 66, noted + 10)) + 30
     paper.set("height", str(height))
     page.set("viewBox", f"0 0 {WIDTH} {height}")

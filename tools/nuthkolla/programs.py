@@ -7,6 +7,7 @@ import subprocess
 ROOT = pathlib.Path(__file__).resolve().parent.parent.parent
 DESK = ROOT / "target/bin/desk"
 PATHS = ROOT / "target/host/paths"
+PAGE = ROOT / "target/host/page"
 # The environment may name another build.
 ORACLE = pathlib.Path(os.environ.get("ORACLE", ROOT / "target/oracle/oracle"))
 
@@ -50,6 +51,13 @@ def path_command(call, steps):
     if ORACLE.is_file():
         return [str(ORACLE), "path-at", str(call), str(steps)]
     raise Missing("target/host/paths is not built (tools/test/built/60-host builds it), and target/oracle/oracle is not either")
+
+
+def page_command():
+    """What replays a recording for a page: the archive behind tools/host/page.c."""
+    if not PAGE.is_file():
+        raise Missing("target/host/page is not built (./desk page builds it)")
+    return [str(PAGE)]
 
 
 def run(command, data):

@@ -4,7 +4,7 @@ import math
 from collections.abc import Callable
 from typing import NamedTuple
 
-from nuthkolla.flight import in_force, runs, stall_guard
+from nuthkolla.flight import in_force, runs
 from nuthkolla.numbers import is_finite, value
 from nuthkolla.svg import Scale, add, cross, frame, label, line, path, square, steps, usual_span
 
@@ -81,7 +81,7 @@ STRIPS = [
     Strip("roll", "Roll, degrees, right (starboard) is positive", "°", True, setpoint(0, math.degrees), roll_limits),
     Strip("pitch", "Pitch, degrees, nose up is positive", "°", True, setpoint(1, math.degrees), pitch_limits),
     Strip("thrust", "Thrust, share of full thrust", "", True, setpoint(2, float), thrust_limits),
-    Strip("off", "Off the line, metres, right of it (starboard) is positive", " m", True, distance),
+    Strip("off", "Off the line, metres, starboard is positive", " m", True, distance),
     Strip(
         "height",
         "Height, metres",
@@ -105,10 +105,14 @@ STRIPS = [
 
 
 class Column:
-    """Where the strips stand: left and right edge, and the scale of time."""
+    """Where the strips stand: left and right edge, the scale of time, a strip's height and the gap above it.
 
-    def __init__(self, flown, left, right):
-        self.flown, self.left, self.right = flown, left, right
+    guard: whether the stall guard stands after each call.
+    """
+
+    def __init__(self, flown, guard, left, right, height=STRIP_HEIGHT, gap=STRIP_GAP):
+        self.flown, self.guard, self.left, self.right = flown, guard, left, right
+        self.height, self.gap = height, gap
         self.time = Scale((0.0, max(flown[-1].time, 1.0)), (left, right))
 
     def box(self, top, height):
@@ -127,9 +131,9 @@ def draw_spans(page, column, top, bottom):
             line(page, "refused through", x, top, x, bottom)
 
 
-def draw_guard(page, column, configuration, top, bottom):
+def draw_guard(page, column, top, bottom):
     """Where the stall guard stands, which keeps an energy step's thrust at its top."""
-    stands = dict(zip((m.number for m in column.flown), stall_guard(configuration, column.flown)))
+    stands = dict(zip((m.number for m in column.flown), column.guard))
     for run in runs(column.flown, lambda m: 1 if stands[m.number] else None):
         first, last = column.time(run.steps[0][0]), column.time(run.end)
         box = {"x": first, "y": top, "width": max(last - first, 1.0), "height": bottom - top}
@@ -153,8 +157,10 @@ def stairs(run, column, scale):
     """Points of a line that keeps each number until the next time, the last call's to the end."""
     end = column.time.high if run.steps[-1][0] == column.flown[-1].time else run.end
     points = []
-    for (time, number), (after, _) in zip(run.steps, [*run.steps[1:], (end, None)]):
-        points += [(column.time(time), scale(number)), (column.time(after), scale(number))]
+    for n, (time, number) in enumerate(run.steps):
+        if n == 0 or number != run.steps[n - 1][1]:
+            points += [(column.time(time), scale(number))] * 2
+        points[-1] = (column.time(run.steps[n + 1][0] if n + 1 < len(run.steps) else end), scale(number))
     return points
 
 
@@ -193,7 +199,7 @@ def inside(number, scale):
 
 def outside_words(numbers, scale):
     count = sum(not scale.within(v) for v in numbers)
-    return f"; {count} call{'s' * (count > 1)} outside the strip" if count else ""
+    return f"; {count} call{'s' * (count > 1)} outside" if count else ""
 
 
 def draw_strip(page, strip, column, configuration, top):
@@ -202,7 +208,7 @@ def draw_strip(page, strip, column, configuration, top):
     of = {name: value(bits) for name, bits in configuration.items()}
     limits = [(m, strip.limits(of, m)) for m in flown]
     numbers, demands = ([v for v in map(part, flown) if v is not None] for part in (strip.number, strip.demand))
-    box = column.box(top, STRIP_HEIGHT)
+    box = column.box(top, column.height)
     bottom = box[3]
     span = strip_span(strip, [pair for _, pair in limits if pair], numbers, demands)
     scale = Scale(span, (bottom, top))
@@ -212,7 +218,7 @@ def draw_strip(page, strip, column, configuration, top):
         label(page, "soft end", column.left - 7, scale(v) + 4, f"{v:g}")
     group = add(page, "g", f"strip-{strip.name}")
     if strip.name == "thrust":
-        draw_guard(group, column, configuration, top, bottom)
+        draw_guard(group, column, top, bottom)
     draw_limits(group, strip, column, limits, scale)
     draw_demand(group, strip, column, scale)
     for run in runs(flown, lambda m: inside(strip.number(m), scale)):
@@ -247,14 +253,14 @@ def draw_refusal_marks(page, column, y):
         label(page, "ink small", places[-1] + 8, y + 4, text)
 
 
-def draw_law_marks(page, column, lower, idle):
-    """lower, idle: the places of the rows; the second is none where no call is idle."""
+def draw_law_marks(page, column, held, fell_back, idle):
+    """The places of the rows; the last is that before it where no call is idle."""
     for moment in column.flown:
         x = column.time(moment.time)
         if moment.law == "hold":
-            square(page, "mark hold", x, lower, 3)
+            square(page, "mark hold", x, held, 3)
         elif moment.law == "fallback":
-            add(page, "circle", "mark fallback", cx=x, cy=lower, r=3)
+            add(page, "circle", "mark fallback", cx=x, cy=fell_back, r=3)
         if moment.idle:
             add(page, "circle", "mark idle ring", cx=x, cy=idle, r=4)
 
@@ -262,7 +268,7 @@ def draw_law_marks(page, column, lower, idle):
 def draw_band(page, column, top):
     """A mark for each refused call, each hold, each fallback and each idle call; the place of its lower edge."""
     some_idle = any(moment.idle for moment in column.flown)
-    names = ["refused", "held, fell back", *["idle"] * some_idle]
+    names = ["refused", "held", "fell back", *["idle"] * some_idle]
     rows = [top + 13 + 19 * n for n in range(len(names))]
     box = column.box(top, 19 * len(names) + 6)
     words = "refused, held, fell back or idle" if some_idle else "refused, held or fell back"
@@ -272,7 +278,7 @@ def draw_band(page, column, top):
     for y in rows[1:]:
         line(page, "grid", column.left, y - 10, column.right, y - 10)
     draw_refusal_marks(page, column, rows[0])
-    draw_law_marks(page, column, rows[1], rows[-1])
+    draw_law_marks(page, column, rows[1], rows[2], rows[-1])
     frame(page, "frame", box)
     return box[3]
 
@@ -294,8 +300,8 @@ def draw_over_time(page, column, configuration, top):
     """The band and every strip, from a place down; the place of the lowest edge."""
     top = draw_band(page, column, top)
     for strip in STRIPS:
-        top += STRIP_GAP
+        top += column.gap
         draw_strip(page, strip, column, configuration, top)
-        top += STRIP_HEIGHT
+        top += column.height
     draw_time_axis(page, column, top)
     return top

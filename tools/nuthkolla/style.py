@@ -13,6 +13,9 @@ COLOURS = {
     "hold": ("#6b3fa0", "#cbaeff"),
     "refused": ("#b3261e", "#ff8f85"),
     "ahead": ("#a3195b", "#ff9ccf"),
+    "other": ("#8a4b08", "#f0b27a"),
+    "raised": ("#f2f4f7", "#1e242b"),
+    "focus": ("#0b57d0", "#ffd54a"),
 }
 
 # Classes, and the colours of their lines and of what they fill.
@@ -40,13 +43,16 @@ FILLS = {
     ".span": "grid",
     ".guard": "fallback",
 }
+# What stands on a page alone.
+PAGE_STROKES = {".plane": "paper", ".cursor": "ink", ".other": "other", ".route": "ink", ".parting": "refused"}
+PAGE_FILLS = {".plane": "ink", ".pointer": "ink", ".route": "paper", ".other.way": "paper"}
 DAY, NIGHT = 0, 1
 
 
-def colours(side, under=""):
+def colours(side, under="", tables=(STROKES, FILLS)):
     """The rules of a side; under: what a selector has to stand under."""
     rules = []
-    for word, table in (("stroke", STROKES), ("fill", FILLS)):
+    for word, table in zip(("stroke", "fill"), tables):
         for names, colour in table.items():
             names = ", ".join(f"{under}{name}" for name in names.split(", "))
             rules.append(f"{names} {{ {word}: {COLOURS[colour][side]}; }}")
@@ -86,6 +92,24 @@ def style():
     return f"{SHAPES}{colours(DAY)}\n{dark}\n"
 
 
+PAGE_SHAPES = """
+.other { fill: none; stroke-width: 1.8; stroke-dasharray: 2 3; }
+.other.way { stroke-width: 1.2; stroke-dasharray: none; }
+.plane { stroke-width: 1.5; stroke-linejoin: round; }
+.cursor { fill: none; stroke-width: 1.5; }
+.route { stroke-width: 1.6; }
+.parting { fill: none; stroke-width: 2.5; }
+"""
+
+
+def variables(side):
+    return " ".join(f"--{name}: {pair[side]};" for name, pair in COLOURS.items())
+
+
 def themed_style():
-    """For drawings in a page whose root names its theme."""
-    return f"{SHAPES}{colours(DAY)}\n{colours(NIGHT, ':root[data-theme=night] ')}\n"
+    """For a page whose root names its theme: its colours as variables, and the rules of its drawings."""
+    parts = [SHAPES, PAGE_SHAPES]
+    for side, root in ((DAY, ":root"), (NIGHT, ":root[data-theme=night]")):
+        under = f"{root} " if side == NIGHT else ""
+        parts += [f"{root} {{ {variables(side)} }}", colours(side, under), colours(side, under, (PAGE_STROKES, PAGE_FILLS))]
+    return "\n".join(parts) + "\n"

@@ -2,7 +2,7 @@
 
 import math
 
-from nuthkolla.numbers import to_text, value
+from nuthkolla.numbers import is_finite, to_text, value
 from nuthkolla.record import REFUSALS as RECORD_REFUSALS
 from nuthkolla.record import MOST_CALLS
 from nuthkolla.settings import PAIRS, SETTINGS
@@ -64,9 +64,14 @@ def nose_words(bits):
     return "nose " + turned(bits, "°", "level", "down", "up")
 
 
-def thrust_words(bits):
+def share_words(bits):
+    """Thrust, of full thrust."""
     share = value(bits)
-    return f"thrust {share * 100:.0f} %" if math.isfinite(share) else "thrust not a number"
+    return f"{share * 100:.0f} %" if math.isfinite(share) else "not a number"
+
+
+def thrust_words(bits):
+    return f"thrust {share_words(bits)}"
 
 
 def distance_words(bits):
@@ -82,16 +87,19 @@ def plane_words(numbers):
     return ", ".join(words + [distance_words(bits) for bits in numbers[3:4]])
 
 
-def rate_words(numbers):
+def rate_parts(numbers):
+    """Roll, pitch and yaw rate, and thrust."""
     roll, pitch, yaw, thrust = numbers
-    return ", ".join(
-        [
-            "rolling " + turned(roll, "°/s", "not at all", "to port", "to starboard"),
-            "pitching " + turned(pitch, "°/s", "not at all", "down", "up"),
-            "yawing " + turned(yaw, "°/s", "not at all", "to port", "to starboard"),
-            thrust_words(thrust),
-        ]
-    )
+    return [
+        "rolling " + turned(roll, "°/s", "not at all", "to port", "to starboard"),
+        "pitching " + turned(pitch, "°/s", "not at all", "down", "up"),
+        "yawing " + turned(yaw, "°/s", "not at all", "to port", "to starboard"),
+        thrust_words(thrust),
+    ]
+
+
+def rate_words(numbers):
+    return ", ".join(rate_parts(numbers))
 
 
 def answer_words(answer):
@@ -110,6 +118,84 @@ def call_words(call, answer):
     head = ", ".join([call.kind, *([" ".join(answer.laws)] if answer.laws else [])])
     words = answer_words(answer)
     return f"{head}: {words}" if words else head
+
+
+# ---- for a page: a call's command, laws and numbers apart
+
+LAWS = {
+    "track": "track: along the leg",
+    "loiter": "loiter: round the point, clockwise",
+    "idle": "idle: wings level, too slow or a leg without length",
+    "energy": "energy: height and airspeed together",
+    "hold": "hold: trim pitch and cruise thrust, a sensor reports no number",
+    "fallback": "fallback: height alone, no usable airspeed",
+}
+STICKS = {
+    "attitude": "sticks, attitude",
+    "rate": "sticks, rates",
+    "absolute-attitude": "attitude in rad",
+    "absolute-rate": "rates in rad/s",
+}
+
+
+def sized(bits):
+    """A number with its sign, as a size is shown; what is not finite in a word."""
+    number = value(bits)
+    return ("-" if number < 0 else "") + shown(abs(number), "") if is_finite(bits) else to_text(bits)
+
+
+def place_words(north, east):
+    return f"{sized(north)} m north, {sized(east)} m east"
+
+
+def waypoint_words(numbers):
+    place, leg = place_words(*numbers["at"]), numbers.get("leg")
+    aim = f"waypoint: the leg through {place}" if leg and all(map(is_finite, leg)) else f"waypoint: loiter round {place}"
+    cap = f", pitch within {turned(numbers['cap'][0], '°', '0.0°', '(below 0)', '')}".rstrip() if "cap" in numbers else ""
+    return f"{aim}, at {sized(numbers['altitude'][0])} m and {sized(numbers['cruise'][0])} m/s{cap}"
+
+
+def command_words(call):
+    """What a call asks for."""
+    if call.kind == "waypoint":
+        words = waypoint_words(call.numbers)
+    elif call.kind in STICKS:
+        given = ", ".join(f"{name} {to_text(bits[0])}" for name, bits in call.numbers.items() if name != "dt")
+        words = f"{STICKS[call.kind]}: {given}"
+    else:
+        words = call.kind
+    return words + ("; copter asked for" if call.regime == "copter" else "")
+
+
+def law_words(answer):
+    return "; ".join(LAWS[law] for law in answer.laws)
+
+
+def sensor_words(call):
+    """What a waypoint call reports, with what it demands; empty for another call."""
+    if call.kind != "waypoint":
+        return {}
+    position, airspeed = call.numbers["position"], call.numbers.get("airspeed")
+    cruise = f"demand {sized(call.numbers['cruise'][0])} m/s"
+    return {
+        "position": place_words(*position[:2]),
+        "height": f"{sized(position[2])} m, demand {sized(call.numbers['altitude'][0])} m",
+        "airspeed": f"{sized(airspeed[0])} m/s, {cruise}" if airspeed else f"none reported, {cruise}",
+    }
+
+
+def setpoint_words(answer):
+    """Roll, pitch, yaw, thrust and metres off the line, each by its name; only those that the answer has."""
+    if answer.kind in ("refused", "prime"):
+        return {}
+    if answer.kind == "rate":
+        words = [*rate_parts(answer.numbers)[:3], share_words(answer.numbers[3])]
+        return dict(zip(("roll", "pitch", "yaw", "thrust"), words))
+    words = [bank_words(answer.numbers[0]), nose_words(answer.numbers[1]), share_words(answer.numbers[2])]
+    found = dict(zip(("roll", "pitch", "thrust"), words))
+    if answer.laws:
+        found["off"] = "idle: no line" if answer.laws[0] == "idle" else distance_words(answer.numbers[3]).removesuffix(" of the line")
+    return found
 
 
 def ending_words(ending, configuration):
