@@ -2,10 +2,10 @@
 use mathlib.Core.Path.{_≡_, refl, sym, ap, _∙_, subst}
 use mathlib.Core.Bool.{Bool, true, false, cond, _||_}
 use Prim.Native.Nat.{ℕ, zero, suc, _*_, _^_, _≤_, _<_}
-use native.Mathlib.Nat.{le-trans, le-of-eq, one-mul, mul-le-mul-right, mul-pos}
+use native.Mathlib.Nat.{le-trans, le-of-eq, lt-irrefl, one-mul, mul-le-mul-right, mul-pos, pow-suc}
 use native.Mathlib.Omega.{arith}
-use lib.Dec.{T, ltb, eqb·suc-zero}
-use lib.IntN.{ℤ, pos}
+use lib.Dec.{T, ltb, eqb, eqb→eq, eqb·suc-zero}
+use lib.IntN.{ℤ, pos, negsuc}
 use lib.Pow.{pow-pos}
 use lib.Ieee.{Float, nan, inf, fin, binary32, up, down, odd, units, round, add, sub, mul, div, neg, lt, le, eq, isNan, fits, ofBits}
 use lib.Ieee.Fits.{round-is, up-pos, down-pos}
@@ -255,6 +255,38 @@ size-above m e f = go (lt n1 u) refl
         is-above 3 16 _ (omega arith)
         (sub-least 3 22 16 fracPi2 _ (omega arith) (omega arith) (held 3 4 (omega arith) (omega arith)) (half .1) (inverse (suc m) e h))
     go false h = part-above m e f (not-over (suc m) e h)
+
+-- ---- the arctangent of a size has no sign
+
+above-unsigned : (x : Float) → lt n0 x ≡ true → negative x ≡ false
+unfolding lt negative ofBits
+above-unsigned nan p = never p
+above-unsigned (inf true) p = never p
+above-unsigned (inf false) p = refl
+above-unsigned (fin true m e) p = never p
+above-unsigned (fin false m e) p = refl
+
+-- a zero has one exponent
+pub zero-exponent : (e : ℤ) → T (eqb (up e * down e) 1) → e ≡ pos 0
+zero-exponent (pos zero) h = refl
+zero-exponent (pos (suc k)) h = let q = eqb→eq (2 ^ suc k * 1) 1 h in absurd (lt-irrefl 1 (omega (arith, q, pow-suc 2 k, pow-pos k)))
+zero-exponent (negsuc k) h = let q = eqb→eq (1 * 2 ^ suc k) 1 h in absurd (lt-irrefl 1 (omega (arith, q, pow-suc 2 k, pow-pos k)))
+
+zero-unsigned : negative (arctangentOfSize (fin false 0 (pos 0))) ≡ false
+unfolding arctangentOfSize part series negative lt le ofBits add sub mul div neg
+zero-unsigned = refl
+
+at-zero : (e : ℤ) → e ≡ pos 0 → negative (arctangentOfSize (fin false 0 e)) ≡ false
+at-zero e z = subst (λ (x : ℤ). negative (arctangentOfSize (fin false 0 x)) ≡ false) (sym z) zero-unsigned
+
+pub arctangent-unsigned : (u : Float) → T (fits binary32 u) → isNan u ≡ false → negative u ≡ false → negative (arctangentOfSize u) ≡ false
+unfolding isNan negative fits
+arctangent-unsigned nan f n p = never′ n
+arctangent-unsigned (inf true) f n p = never′ p
+arctangent-unsigned (inf false) f n p = above-unsigned _ (at-infinity .1)
+arctangent-unsigned (fin true m e) f n p = never′ p
+arctangent-unsigned (fin false zero e) f n p = at-zero e (zero-exponent e f)
+arctangent-unsigned (fin false (suc m) e) f n p = above-unsigned _ (size-above m e f)
 
 -- ---- the arctangent of a number above 0
 not-equal : (v : Float) → lt n0 v ≡ true → (b : Bool) → eq v n0 ≡ b → b ≡ false

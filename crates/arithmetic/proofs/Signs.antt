@@ -132,3 +132,13 @@ unfolding size negative
 size-unsigned nan = refl
 size-unsigned (inf s) = refl
 size-unsigned (fin s m e) = refl
+
+pub size-held : (v : Float) → T (fits binary32 v) → T (fits binary32 (size v))
+unfolding size fits
+size-held nan h = h
+size-held (inf s) h = h
+size-held (fin s m e) h = any-sign s false m e h
+
+-- a number without a sign has bits below the sign bit
+pub unsigned-bits : (v : Float) → T (fits binary32 v) → isNan v ≡ false → negative v ≡ false → toBits binary32 v < 0x80000000
+unsigned-bits v h n p = nleb→lt 0x80000000 (toBits binary32 v) (subst (λ (b : Bool). T (not b)) (sym (sign-bit v h n ∙ p)) tt)

@@ -129,8 +129,9 @@ pub fn arctangent_of_size(u: f32) -> f32
     }
 }
 
-// Arctangent. The sign bit, 2^31, is taken off the number's bits and added to the result's, modulo 2^32, so that nothing branches
-// on the sign nor on a zero. NaN is set apart, since its bits are not defined.
+// Arctangent. The sign bit, 2^31, is taken off the number's bits and added to the result's, so that nothing branches on the sign nor
+// on a zero. The arctangent of a size has no sign: `%` changes nothing, and shows the compiler that nothing is carried. NaN is set
+// apart, since its bits are not defined.
 pub fn arctangent(v: f32) -> f32
     ensures { λ r. ⌜ r ≡ spec.arctangent v ⌝ }
 {
@@ -140,7 +141,7 @@ pub fn arctangent(v: f32) -> f32
     let b: u32 = f32::to_bits(v);
     let sign: u32 = b / 0x8000_0000 * 0x8000_0000;
     let a = arctangent_of_size(f32::from_bits(b % 0x8000_0000));
-    f32::from_bits(((f32::to_bits(a) as u64 + sign as u64) % 0x1_0000_0000) as u32)
+    f32::from_bits(f32::to_bits(a) % 0x8000_0000 + sign)
 }
 
 pub fn arcsine(v: f32) -> f32

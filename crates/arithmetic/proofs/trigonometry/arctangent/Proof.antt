@@ -16,8 +16,8 @@ use Rattle.arithmetic.specs.Constants.{n0, n1}
 use Rattle.arithmetic.specs.Order.{size, negative}
 use Rattle.arithmetic.specs.Trigonometry.{seriesEnd, series, part, arctangentOfSize, arctangent}
 use Rattle.arithmetic.proofs.Bounds.{never′, ne-self, zero-is}
-use Rattle.arithmetic.proofs.Signs.{size-bits, size-number, size-unsigned, is-number, signed-bits, signed-number}
-use Rattle.arithmetic.proofs.Arctangent.{arctangent-number}
+use Rattle.arithmetic.proofs.Signs.{size-bits, size-number, size-unsigned, is-number, size-held, unsigned-bits, signed-bits, signed-number}
+use Rattle.arithmetic.proofs.Arctangent.{zero-exponent, arctangent-number, arctangent-unsigned}
 use Rattle.arithmetic.proofs.trigonometry.arctangent.Statement.{statement}
 use Rattle.arithmetic.proofs.trigonometry.arctangent.Tie as tie
 
@@ -25,11 +25,6 @@ use Rattle.arithmetic.proofs.trigonometry.arctangent.Tie as tie
 
 abbrev signed : Bool → Float → Float
 signed s u = cond s (neg (arctangentOfSize u)) (arctangentOfSize u)
-
-zero-exponent : (e : ℤ) → T (eqb (up e * down e) 1) → e ≡ pos 0
-zero-exponent (pos zero) h = refl
-zero-exponent (pos (suc k)) h = let q = eqb→eq (2 ^ suc k * 1) 1 h in absurd (lt-irrefl 1 (omega (arith, q, pow-suc 2 k, pow-pos k)))
-zero-exponent (negsuc k) h = let q = eqb→eq (1 * 2 ^ suc k) 1 h in absurd (lt-irrefl 1 (omega (arith, q, pow-suc 2 k, pow-pos k)))
 
 at-zero : (s : Bool) → signed s (fin false 0 (pos 0)) ≡ arctangent (fin s 0 (pos 0))
 unfolding arctangent arctangentOfSize part series isNan neg lt le eq ofBits add sub mul div
@@ -84,6 +79,9 @@ size-fits : (u : Float) → T (fits binary32 (arctangentOfSize u))
 unfolding arctangentOfSize
 size-fits u = cond-fits binary32 (lt n1 u) _ _ (sub-fits binary32 _ _) (part-fits u)
 
+not-carried : (a b : ℕ) → a < 0x80000000 → b < 0x100000000 → a % 0x80000000 + b / 0x80000000 * 0x80000000 ≡ (a + b / 0x80000000 * 0x80000000) % 0x100000000
+not-carried a b l k = omega arith
+
 module _ (c : tie.After-arctangent-of-size) where
   abbrev start : tie.Start
   start = c .before .before
@@ -103,9 +101,16 @@ module _ (c : tie.After-arctangent-of-size) where
   a-number : isNan (c .arctangent-of-size .result) ≡ false
   a-number = ap isNan a-is ∙ arctangent-number (size v) (size-number v v-number) (size-unsigned v)
 
-  signed-is : ofBits binary32 ((toBits binary32 (c .arctangent-of-size .result) + toBits binary32 v / 0x80000000 * 0x80000000) % 0x100000000)
+  a-low : toBits binary32 (c .arctangent-of-size .result) < 0x80000000
+  a-low =
+      unsigned-bits (c .arctangent-of-size .result) a-fits a-number
+      (ap negative a-is ∙ arctangent-unsigned (size v) (size-held v (held start)) (size-number v v-number) (size-unsigned v))
+
+  signed-is : ofBits binary32 (toBits binary32 (c .arctangent-of-size .result) % 0x80000000 + toBits binary32 v / 0x80000000 * 0x80000000)
       ≡ cond (negative v) (neg (c .arctangent-of-size .result)) (c .arctangent-of-size .result)
-  signed-is = signed-bits v (c .arctangent-of-size .result) (held start) a-fits v-number a-number
+  signed-is =
+      ap (ofBits binary32) (not-carried (toBits binary32 (c .arctangent-of-size .result)) (toBits binary32 v) a-low (toBits-lt binary32 v (held start)))
+      ∙ signed-bits v (c .arctangent-of-size .result) (held start) a-fits v-number a-number
 
 returns : tie.Need-returns
 returns c = nan-kept (c .before .args .v) (sym (ne-self (c .before .args .v)) ∙ c .if1 .taken)
@@ -125,17 +130,8 @@ float-from-bits-arctangent-of-size c =
 float-to-bits-result : tie.Need-float-to-bits-result
 float-to-bits-result c = is-number _ (a-number c)
 
-cast-result : tie.Need-cast-result
-cast-result c = omega (arith, toBits-lt binary32 (c .arctangent-of-size .result) (a-fits c))
-
-cast-result-2 : tie.Need-cast-result-2
-cast-result-2 c = omega (arith, toBits-lt binary32 (v c) (held (start c)))
-
 add-result : tie.Need-add-result
-add-result c = omega (arith, toBits-lt binary32 (c .arctangent-of-size .result) (a-fits c), toBits-lt binary32 (v c) (held (start c)))
-
-cast-result-3 : tie.Need-cast-result-3
-cast-result-3 c = search needs
+add-result c = omega (arith, toBits-lt binary32 (v c) (held (start c)))
 
 float-from-bits-result : tie.Need-float-from-bits-result
 float-from-bits-result c =
@@ -157,9 +153,6 @@ arctangent-spec =
     float-from-bits-arctangent-of-size
     (λ c κs. tt)
     float-to-bits-result
-    cast-result
-    cast-result-2
     add-result
-    cast-result-3
     float-from-bits-result
     returns-2)
