@@ -185,15 +185,19 @@ module _ {M : Type 1} (𝓤 : URA M) (H : Heap 𝓤) (A : Atoms 𝓤) (W : Given
     abbrev Locals : Env 𝓤 H
     Locals = (O′.mir, l₀) ∷ (ref-ty, l₁) ∷ (tyInt w32, l₂) ∷ (tyInt w32, l₃) ∷ (bytes-ty, l₄) ∷ (T′.mir, l₅) ∷ (S′.mir, l₆) ∷ (S′.mir, l₇) ∷ (tyBool, l₈) ∷ (O′.mir, l₉) ∷ []
 
+    -- _8, the test; rooms for _7 and _6; _5, the copy; _4 to _1, the parameters; room for _0; and what follows
+    abbrev Rest : List (Item 𝓤) → List (Item 𝓤)
+    Rest more =
+        ‵ (fat fullShare tyBool l₈ 0 (vbool (eqb n 0))) ∷ ‵ (fdies tyBool l₈) ∷ ‵ (froom S′.mir l₇ 0) ∷ ‵ (fdies S′.mir l₇) ∷ ‵ (froom S′.mir l₆ 0) ∷ ‵ (fdies S′.mir l₆) ∷ ‵ (fat fullShare T′.mir l₅ 0 (mach h)) ∷ ‵ (fdies T′.mir l₅) ∷
+        ‵ (fat fullShare bytes-ty l₄ 0 v) ∷ ‵ (fdies bytes-ty l₄) ∷ ‵ (fat fullShare (tyInt w32) l₃ 0 (vint w32 n)) ∷ ‵ (fdies (tyInt w32) l₃) ∷
+        ‵ (fat fullShare (tyInt w32) l₂ 0 (vint w32 who)) ∷ ‵ (fdies (tyInt w32) l₂) ∷ ‵ (fat fullShare ref-ty l₁ 0 (vptr b o)) ∷ ‵ (fdies ref-ty l₁) ∷
+        ‵ (froom O′.mir l₀ 0) ∷ ‵ (fdies O′.mir l₀) ∷ more
+
     -- after either branch: the slice's token; what the slice owns; the guidance's cell; the open borrow; obs; auth; _9 to _1; room for _0
     abbrev After : Ran → List (Item 𝓤)
     After r =
         (‵ (flft κ′ q′) ⊛ ‵ ftrue) ∷ ‵ Own ∷ ‵ (fat fullShare T′.mir b o (mach (r .guidance))) ∷ ‵ (fobor κ q (Body (mem T.the-row) b o γ)) ∷ ‵ (fobs γ (T.the-row .coded .code h)) ∷ ‵ (fauth γ (T.the-row .coded .code h)) ∷
-        ‵ (fat fullShare O′.mir l₉ 0 (LL.val O.the-type O′.the-laws (r .answer))) ∷ ‵ (fdies O′.mir l₉) ∷
-        ‵ (fat fullShare tyBool l₈ 0 (vbool (eqb n 0))) ∷ ‵ (fdies tyBool l₈) ∷ ‵ (froom S′.mir l₇ 0) ∷ ‵ (fdies S′.mir l₇) ∷ ‵ (froom S′.mir l₆ 0) ∷ ‵ (fdies S′.mir l₆) ∷ ‵ (fat fullShare T′.mir l₅ 0 (mach h)) ∷ ‵ (fdies T′.mir l₅) ∷
-        ‵ (fat fullShare bytes-ty l₄ 0 v) ∷ ‵ (fdies bytes-ty l₄) ∷ ‵ (fat fullShare (tyInt w32) l₃ 0 (vint w32 n)) ∷ ‵ (fdies (tyInt w32) l₃) ∷
-        ‵ (fat fullShare (tyInt w32) l₂ 0 (vint w32 who)) ∷ ‵ (fdies (tyInt w32) l₂) ∷ ‵ (fat fullShare ref-ty l₁ 0 (vptr b o)) ∷ ‵ (fdies ref-ty l₁) ∷
-        ‵ (froom O′.mir l₀ 0) ∷ ‵ (fdies O′.mir l₀) ∷ []
+        ‵ (fat fullShare O′.mir l₉ 0 (LL.val O.the-type O′.the-laws (r .answer))) ∷ ‵ (fdies O′.mir l₉) ∷ Rest []
 
     ends : (r : Ran) → Is S.the-row r (mach′ r ∷ []) → r ≡ runBy h who n (now s) → Sq W (After r) (runs C Λ Locals parts.t-4 (atRet Locals Post))
     ends r is e =
@@ -212,11 +216,7 @@ module _ {M : Type 1} (𝓤 : URA M) (H : Heap 𝓤) (A : Atoms 𝓤) (W : Given
     abbrev Before : List (Item 𝓤)
     Before =
         ‵ (fat fullShare T′.mir b o (mach h)) ∷ ‵ (fobor κ q (Body (mem T.the-row) b o γ)) ∷ ‵ (fobs γ (T.the-row .coded .code h)) ∷ ‵ (fauth γ (T.the-row .coded .code h)) ∷
-        ‵ (froom O′.mir l₉ 0) ∷ ‵ (fdies O′.mir l₉) ∷
-        ‵ (fat fullShare tyBool l₈ 0 (vbool (eqb n 0))) ∷ ‵ (fdies tyBool l₈) ∷ ‵ (froom S′.mir l₇ 0) ∷ ‵ (fdies S′.mir l₇) ∷ ‵ (froom S′.mir l₆ 0) ∷ ‵ (fdies S′.mir l₆) ∷ ‵ (fat fullShare T′.mir l₅ 0 (mach h)) ∷ ‵ (fdies T′.mir l₅) ∷
-        ‵ (fat fullShare bytes-ty l₄ 0 v) ∷ ‵ (fdies bytes-ty l₄) ∷ ‵ (fat fullShare (tyInt w32) l₃ 0 (vint w32 n)) ∷ ‵ (fdies (tyInt w32) l₃) ∷
-        ‵ (fat fullShare (tyInt w32) l₂ 0 (vint w32 who)) ∷ ‵ (fdies (tyInt w32) l₂) ∷ ‵ (fat fullShare ref-ty l₁ 0 (vptr b o)) ∷ ‵ (fdies ref-ty l₁) ∷
-        ‵ (froom O′.mir l₀ 0) ∷ ‵ (fdies O′.mir l₀) ∷ ‵ Own ∷ (‵ (flft κ′ q′) ⊛ ‵ ftrue) ∷ []
+        ‵ (froom O′.mir l₉ 0) ∷ ‵ (fdies O′.mir l₉) ∷ Rest (‵ Own ∷ (‵ (flft κ′ q′) ⊛ ‵ ftrue) ∷ [])
 
     module _ (fm : FmC 𝓤 H (W .laws) C) (call-known : Triple 𝓤 (C #host·run·call-by) (CallBy 𝓤 H A at-mem run)) (change-known : Triple 𝓤 (C #host·run·change-by) (ChangeBy 𝓤 H A at-mem run)) (was : Is T.the-row h (mach h ∷ [])) where
       branch : Sq W Before (runs C Λ Locals parts.s-3 Then)
