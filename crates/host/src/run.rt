@@ -1,5 +1,5 @@
-// The one function by reference: the host's guidance is copied out, `run_by` does the work by value, and what it may have
-// changed is put back.
+// The one function by reference: the host's guidance is copied out, `call_by` or `change_by` does the work by value, and what it
+// may have changed is put back.
 use calls::perform;
 use guidance::plane::Created;
 use guidance::plane::PlaneGuidance;
@@ -105,13 +105,10 @@ fn run_back(g: PlaneGuidance) -> Ran
     }
 }
 
-// A number that no call has is refused with `unknown`.
-fn run_or(g: PlaneGuidance, what: u32, unknown: u32, bytes: &[u8]) -> Ran
-    ensures { λ r. ⌜ r ≡ code.runOr g what unknown (now (bytes .entry)) ⌝ }
+// Any number but 0; one that no call has is refused.
+fn change(g: PlaneGuidance, what: u32, bytes: &[u8]) -> Ran
+    ensures { λ r. ⌜ r ≡ code.change g what (now (bytes .entry)) ⌝ }
 {
-    if what == 0 {
-        return run_call(g, bytes);
-    }
     if what == 1 {
         return run_config(g, bytes);
     }
@@ -123,7 +120,7 @@ fn run_or(g: PlaneGuidance, what: u32, unknown: u32, bytes: &[u8]) -> Ran
     }
     Ran {
         guidance: g,
-        answer: bare(unknown, 0, 0),
+        answer: bare(255, 0, 0),
     }
 }
 
@@ -146,29 +143,33 @@ fn may_run(caller: u32, what: u32) -> bool
     may(caller, Deed::Other)
 }
 
-fn number_for(right: bool, what: u32) -> u32
-    ensures { λ r. ⌜ r ≡ code.numberFor right what ⌝ }
+// Number 13 comes first, here and below.
+pub fn call_by(g: PlaneGuidance, caller: u32, bytes: &[u8]) -> Ran
+    ensures { λ r. ⌜ r ≡ spec.runBy g caller 0 (now (bytes .entry)) ⌝ }
 {
-    if right { what } else { 4 }
+    if may(caller, Deed::Guide) {
+        return run_call(g, bytes);
+    }
+    Ran {
+        guidance: g,
+        answer: bare(13, 0, 0),
+    }
 }
 
-fn refusal_for(right: bool) -> u32
-    ensures { λ r. ⌜ r ≡ code.refusalFor right ⌝ }
+pub fn change_by(g: PlaneGuidance, caller: u32, what: u32, bytes: &[u8]) -> Ran
+    ensures { λ r. ⌜ r ≡ code.changeBy g caller what (now (bytes .entry)) ⌝ }
 {
-    if right { 255 } else { 13 }
+    if may_run(caller, what) {
+        return change(g, what, bytes);
+    }
+    Ran {
+        guidance: g,
+        answer: bare(13, 0, 0),
+    }
 }
 
-// Number 13 comes first: without the right a call is one that no number has, but for its refusal. So one place refuses, which is faster.
-pub fn run_by(g: PlaneGuidance, caller: u32, what: u32, bytes: &[u8]) -> Ran
-    ensures { λ r. ⌜ r ≡ spec.runBy g caller what (now (bytes .entry)) ⌝ }
-{
-    let right = may_run(caller, what);
-    let number = number_for(right, what);
-    let unknown = refusal_for(right);
-    run_or(g, number, unknown, bytes)
-}
-
-// A call changes no configuration, neither the one in force nor the kept one: they are put back only where they may have changed.
+// A call changes no configuration, neither the one in force nor the kept one, so they are not put back; and since calls have a branch
+// of their own, the kept one is not even read.
 #[no_mangle]
 pub extern "C" fn nuthkolla_run(
     guidance: &mut PlaneGuidance,
@@ -179,13 +180,15 @@ pub extern "C" fn nuthkolla_run(
     ensures { λ r. ⌜ (now (guidance .exit) ≡ spec.runBy (now (guidance .entry)) caller what (now (bytes .entry)) .guidance) × (r ≡ spec.runBy (now (guidance .entry)) caller what (now (bytes .entry)) .answer) ⌝ }
 {
     let g = *guidance;
-    let r = run_by(g, caller, what, bytes);
-    if what != 0 {
-        guidance.config = r.guidance.config;
-        guidance.former = r.guidance.former;
+    if what == 0 {
+        let r = call_by(g, caller, bytes);
+        guidance.requested = r.guidance.requested;
+        guidance.altitude = r.guidance.altitude;
+        guidance.tecs = r.guidance.tecs;
+        r.answer
+    } else {
+        let r = change_by(g, caller, what, bytes);
+        *guidance = r.guidance;
+        r.answer
     }
-    guidance.requested = r.guidance.requested;
-    guidance.altitude = r.guidance.altitude;
-    guidance.tecs = r.guidance.tecs;
-    r.answer
 }
