@@ -26,7 +26,24 @@ use Rattle.records.specs.declared.call.Call.the-variants.{Prime, Attitud
 use Rattle.records.specs.declared.call_writer.Parts.{Parts}
 use Rattle.records.specs.declared.call_writer.Record.{Record}
 use Rattle.records.specs.declared.call.ReadCall.the-variants.{Read, Refused}
-use Rattle.records.specs.Call.{zero, callFields, complete, unknown, byteAt, regimeOf, callAt, readCall, regimeByte, commandParts, waypointParts, partsOf, valuesOf, mapOfParts, byteOf, callRecord}
+use Rattle.records.specs.Call.{
+  zero,
+  callFields,
+  complete,
+  unknown,
+  byteAt,
+  regimeOf,
+  callAt,
+  readCall,
+  regimeByte,
+  commandParts,
+  waypointParts,
+  partsOf,
+  valuesOf,
+  mapOfParts,
+  byteOf,
+  callRecord,
+}
 
 pub fields-long : length callFields ≡ 22
 unfolding callFields numberFields
