@@ -33,7 +33,20 @@ use Rattle.lines.specs.Line.{text}
 use Rattle.lines.proofs.TextLaw.{text-short}
 use Rattle.replay.specs.declared.turn.CallLine.{CallLine}
 use Rattle.replay.specs.Recording.{Calls, noCalls, onRead, readCalls, stops, recording}
-use Rattle.replay.specs.Text.{refusedLine, stoppedLine, primeLine, setpointLine, waypointLine, answerLine, replyLine, callLines, runLines, recordingLines, linesText, recordingText}
+use Rattle.replay.specs.Text.{
+  refusedLine,
+  stoppedLine,
+  primeLine,
+  setpointLine,
+  waypointLine,
+  answerLine,
+  replyLine,
+  callLines,
+  runLines,
+  recordingLines,
+  linesText,
+  recordingText,
+}
 use Rattle.replay.specs.code.Performed.{callLine}
 use Rattle.replay.specs.code.Pass.{Prints, callsText}
 use Rattle.replay.proofs.PrintLaw.{Printed, printed-none, printed-room, printed-more, printed-all, printed-last, last-room}
