@@ -15,7 +15,27 @@ use Rattle.guidance.specs.Plane.{fresh, verticalLaw}
 use Rattle.guidance.specs.declared.plane.PlaneGuidance.{PlaneGuidance}
 use Rattle.guidance.specs.declared.plane.VerticalLaw.{VerticalLaw}
 use Rattle.guidance.specs.declared.plane.VerticalLaw.the-variants.{Energy, Hold, Fallback}
-use Rattle.claims.specs.Calls.{Call, guide, prime, setConfig, takeBack, Reply, perform, refused, replies, refusals, lawIs, isHold, isFallback, holds, fellBack, struck, strikes, unmarked, marks}
+use Rattle.claims.specs.Calls.{
+  Call,
+  guide,
+  prime,
+  setConfig,
+  takeBack,
+  Reply,
+  perform,
+  refused,
+  replies,
+  refusals,
+  lawIs,
+  isHold,
+  isFallback,
+  holds,
+  fellBack,
+  struck,
+  strikes,
+  unmarked,
+  marks,
+}
 use Rattle.claims.proofs.Demand3.{demand3}
 
 -- no mark at all
