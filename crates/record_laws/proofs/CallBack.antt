@@ -33,7 +33,35 @@ use Rattle.records.specs.declared.call.Call.{Call}
 use Rattle.records.specs.declared.call.Call.the-variants.{Prime, Attitude, Rate, Waypoint, AbsoluteAttitude, Land, AbsoluteRate}
 use Rattle.records.specs.declared.call_writer.Parts.{Parts}
 use Rattle.records.specs.declared.call.ReadCall.the-variants.{Read, Refused}
-use Rattle.records.specs.Call.{callFields, complete, unknown, byteAt, regimeOf, optionOf, legOf, attitudeAt, rateAt, absoluteAttitudeAt, absoluteRateAt, waypointAt, stateAt, callAt, readCall, regimeByte, numberOr0, hasNumber, legNorth, legEast, hasLeg, commandParts, waypointParts, partsOf, valuesOf, mapOfParts, callRecord}
+use Rattle.records.specs.Call.{
+  callFields,
+  complete,
+  unknown,
+  byteAt,
+  regimeOf,
+  optionOf,
+  legOf,
+  attitudeAt,
+  rateAt,
+  absoluteAttitudeAt,
+  absoluteRateAt,
+  waypointAt,
+  stateAt,
+  callAt,
+  readCall,
+  regimeByte,
+  numberOr0,
+  hasNumber,
+  legNorth,
+  legEast,
+  hasLeg,
+  commandParts,
+  waypointParts,
+  partsOf,
+  valuesOf,
+  mapOfParts,
+  callRecord,
+}
 use Rattle.records.specs.Call as spec
 use Rattle.record_laws.specs.Laws.{CallF32, CallLaws, CallLongest}
 use Rattle.records.proofs.CallLaw.{fields-long, fields-are, size-is, Numbers, parts-long, regime-le, values-byte, byte-missing}
