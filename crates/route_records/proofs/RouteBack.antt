@@ -186,7 +186,8 @@ module _ (s : List ℕ) (at m from : ℕ) where
         bytes = λ (h : AreBytes s). rw (one-map-long m small, one-map-bytes m small, ← em) (bytes-back 4 (drop at s) (bytes-dropped at s h) (simp length-drop (omega arith)));
       }
 
-  two-read : at + 8 ≤ length s → 2147483648 ≤ First → Second < 2147483648 → (Second ≡ 0 → ⊥) → joined First Second ≡ m → at + 8 ≡ from → MapsRead s at m from
+  two-read : at + 8 ≤ length s → 2147483648 ≤ First → Second < 2147483648 → (Second ≡ 0 → ⊥) → joined First Second ≡ m
+      → at + 8 ≡ from → MapsRead s at m from
   two-read l high low some em ep =
       let large : 2147483648 ≤ m = omega arith in
       record {
