@@ -22,7 +22,24 @@ use Rattle.fields.proofs.FieldLaw.{ones-le, ones-below}
 use Rattle.fields.proofs.LawsProof.{laws}
 use Rattle.route_records.specs.declared.Loaded.{Loaded}
 use Rattle.route_records.specs.declared.Loaded.the-variants as loaded
-use Rattle.route_records.specs.Record.{Route, numberCount, mapRefusal, joined, oneMap, twoMaps, readMaps, readPoints, numbersAt, allFinite, refused, read, readRoute, numberBytes, mapsBytes, routeRecord}
+use Rattle.route_records.specs.Record.{
+  Route,
+  numberCount,
+  mapRefusal,
+  joined,
+  oneMap,
+  twoMaps,
+  readMaps,
+  readPoints,
+  numbersAt,
+  allFinite,
+  refused,
+  read,
+  readRoute,
+  numberBytes,
+  mapsBytes,
+  routeRecord,
+}
 use Rattle.route_records.specs.Laws.{IsRoute, RouteLaws, AreBytes, RouteKept}
 use Rattle.route_records.proofs.NumbersLaw.{numbers-long}
 use Rattle.route_records.proofs.MapsLaw.{map-is, either, one-map-bytes, two-map-bytes, one-map-long, two-maps-long, room, alone-is, first-is, second-is}
