@@ -20,7 +20,42 @@ use ghost.Atoms.{Atoms, sem}
 use contract.Lifetimes.{AllOutlive}
 use contract.Monad.{Fun, fact}
 use contract.Running.{givenOf, tables, tablesOf}
-use types.Kit.{Given, Item, Sq, atRet, runs, ‵, raw, some, later, _⊛_, ⋆, _$_, _∵_, !, qed, by, move, keep, drop, use1, use2, split, join, pick, rewrite, fsplit, fsplit3, fjoin, fjoin3, feqI, suffices, frame, await, done}
+use types.Kit.{
+  Given,
+  Item,
+  Sq,
+  atRet,
+  runs,
+  ‵,
+  raw,
+  some,
+  later,
+  _⊛_,
+  ⋆,
+  _$_,
+  _∵_,
+  !,
+  qed,
+  by,
+  move,
+  keep,
+  drop,
+  use1,
+  use2,
+  split,
+  join,
+  pick,
+  rewrite,
+  fsplit,
+  fsplit3,
+  fjoin,
+  fjoin3,
+  feqI,
+  suffices,
+  frame,
+  await,
+  done,
+}
 use types.Run.{look, init, forget, stop, hop, fld, from, load, of-opd, and-then, no-more, assigns, land, returns, enter, alloc1, alloc0, params1, pass1, pass0, free1, free0}
 use types.Part.{whole, sub, look-in, store-in}
 use types.SemTy.{Body}
