@@ -28,7 +28,32 @@ use Rattle.rights.specs.Rights.{may}
 use Rattle.host.specs.Run.{unchanged, performed, made, ofCall, ofConfig, ofNew, runCall, runConfig, runNew, runBack, run, deedOf, runBy}
 use Rattle.host_answers.specs.declared.answer.RunAnswer.{RunAnswer}
 use Rattle.host.specs.declared.run.Ran.{Ran}
-use Rattle.host_claims.specs.Inputs.{Input, Meaning, aCall, aFresh, refusedAs, callMeaning, configMeaning, newOf, newMeaning, asked, meaning, runOn, answers, left, callsBy, callsOf, NoFresh, OneList, refused, struckBy, fellBackBy, strikesBy, toldBy, told}
+use Rattle.host_claims.specs.Inputs.{
+  Input,
+  Meaning,
+  aCall,
+  aFresh,
+  refusedAs,
+  callMeaning,
+  configMeaning,
+  newOf,
+  newMeaning,
+  asked,
+  meaning,
+  runOn,
+  answers,
+  left,
+  callsBy,
+  callsOf,
+  NoFresh,
+  OneList,
+  refused,
+  struckBy,
+  fellBackBy,
+  strikesBy,
+  toldBy,
+  told,
+}
 
 -- ---- one input
 
