@@ -42,7 +42,8 @@ part-values (x ∷ xs) [] e = let z : _≡_ {A = ℕ} 0 1 = cc in absurd (omega 
 part-values (x ∷ xs) (y ∷ ys) e = go (sameList (callValues (x .call)) (callValues (y .call))) refl e (part-values xs ys)
   where
     go : (b : Bool) → sameList (callValues (x .call)) (callValues (y .call)) ≡ b → cond b (partCalls xs ys) (answer.Part (x .number) (y .number)) ≡ answer.Agree
-        → (partCalls xs ys ≡ answer.Agree → valuesOfNumbered xs ≡ valuesOfNumbered ys) → callValues (x .call) ∷ valuesOfNumbered xs ≡ callValues (y .call) ∷ valuesOfNumbered ys
+        → (partCalls xs ys ≡ answer.Agree → valuesOfNumbered xs ≡ valuesOfNumbered ys)
+        → callValues (x .call) ∷ valuesOfNumbered xs ≡ callValues (y .call) ∷ valuesOfNumbered ys
     go true q e ih = rw (same-eq (callValues (x .call)) (callValues (y .call)) q, ih e)
     go false q e ih = let z : _≡_ {A = ℕ} 0 1 = cc in absurd (omega arith)
 
@@ -83,7 +84,8 @@ equal s t = by-box (compacted s (recording s)) refl
     by-display p (short.Refused f) e h = let z : _≡_ {A = ℕ} 0 1 = cc in absurd (omega arith)
     by-display p (short.Stopped n r) e h = let z : _≡_ {A = ℕ} 0 1 = cc in absurd (omega arith)
 
-    by-box : (c : Compacted) → compacted s (recording s) ≡ c → orRefused 1 c (orRefused 2 (compacted t (recording t)) (parted (recording s) (recording t))) ≡ answer.Agree → Equal s t
+    by-box : (c : Compacted) → compacted s (recording s) ≡ c
+        → orRefused 1 c (orRefused 2 (compacted t (recording t)) (parted (recording s) (recording t))) ≡ answer.Agree → Equal s t
     by-box (short.Length n) e h = by-display (n, e) (compacted t (recording t)) refl h
     by-box (short.Refused f) e h = let z : _≡_ {A = ℕ} 0 1 = cc in absurd (omega arith)
     by-box (short.Stopped n r) e h = let z : _≡_ {A = ℕ} 0 1 = cc in absurd (omega arith)
@@ -106,7 +108,8 @@ sound : (s : List ℕ) → Read s → Sound s
 unfolding compacted
 sound s p = go (recording s) refl (p .1)
   where
-    by-ending : (c : PlaneGuidanceConfig) (ks : List Recorded) (x : Ending) → validate c ≡ 0 → recording s ≡ recorded c (record { calls = ks; ending = x }) → compactedCalls s c ks x ≡ short.Length (p .0) → Sound s
+    by-ending : (c : PlaneGuidanceConfig) (ks : List Recorded) (x : Ending) → validate c ≡ 0
+        → recording s ≡ recorded c (record { calls = ks; ending = x }) → compactedCalls s c ks x ≡ short.Length (p .0) → Sound s
     by-ending c ks ends v e h = record { config = c; calls = ks; valid = v; reads = e }
     by-ending c ks (stops r) v e h = let z : _≡_ {A = ℕ} 0 1 = cc in absurd (omega arith)
 

@@ -99,4 +99,12 @@ module _ {s t : List ℕ} {x₀ y₀ x y : Told} (f : Meeting s t x₀ y₀ x y)
 
       go : (c : Bool) → eqb (number v) 0 ≡ c → left v < left x
       go true e = rw e (omega (arith, before, f .most))
-      go false e = rw e (omega (arith, before, f .most, p .most, p .rises (λ (z : number v ≡ 0). let u : true ≡ false = sym (eq-eqb (number v) 0 z) ∙ e in let o : _≡_ {A = ℕ} 0 1 = cc in omega arith)))
+      go false e =
+          rw e (omega (
+            arith,
+            before,
+            f .most,
+            p .most,
+            p .rises (λ (z : number v ≡ 0).
+                let u : true ≡ false = sym (eq-eqb (number v) 0 z) ∙ e in let o : _≡_ {A = ℕ} 0 1 = cc in omega arith),
+          ))

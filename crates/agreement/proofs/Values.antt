@@ -40,7 +40,8 @@ config-record : (c : PlaneGuidanceConfig) → configRecord c ≡ configBytes (co
 unfolding configRecord configMap configValues
 config-record c = refl
 
-pub config-eq : (s t : List ℕ) (c d : PlaneGuidanceConfig) (m n : ℕ) → readConfig s 0 ≡ config.Read c m → readConfig t 0 ≡ config.Read d n → configValues c ≡ configValues d → c ≡ d
+pub config-eq : (s t : List ℕ) (c d : PlaneGuidanceConfig) (m n : ℕ) → readConfig s 0 ≡ config.Read c m
+    → readConfig t 0 ≡ config.Read d n → configValues c ≡ configValues d → c ≡ d
 config-eq s t c d m n p q e =
     let records : configRecord c ≡ configRecord d = config-record c ∙ ap configBytes e ∙ sym (config-record d) in
     let a : readConfig (configRecord c) 0 ≡ config.Read c (length (configRecord c)) = config-laws .again s 0 c m p .1 in
@@ -77,7 +78,8 @@ call-record : (k : Call) → callRecord k ≡ callBytes (callValues k)
 unfolding callRecord mapOfParts
 call-record k = rw (values-front k, values-rest k)
 
-pub call-eq : (s t : List ℕ) (a b : ℕ) (c d : Call) (m n : ℕ) → readCall s a ≡ read.Read c m → readCall t b ≡ read.Read d n → callValues c ≡ callValues d → c ≡ d
+pub call-eq : (s t : List ℕ) (a b : ℕ) (c d : Call) (m n : ℕ) → readCall s a ≡ read.Read c m → readCall t b ≡ read.Read d n
+    → callValues c ≡ callValues d → c ≡ d
 call-eq s t a b c d m n p q e =
     let records : callRecord c ≡ callRecord d = call-record c ∙ ap callBytes e ∙ sym (call-record d) in
     let x : readCall (callRecord c) 0 ≡ read.Read c (length (callRecord c)) = call-laws .again s a c m p .1 in
@@ -127,7 +129,8 @@ numbered-values (true ∷ ms) n (k ∷ ks) = numbered-values ms (n + 1) ks
 numbered-values (false ∷ ms) n (k ∷ ks) = rw (call-back (k .call)) (ap (λ (l : List (List ℕ)). callValues (k .call) ∷ l) (numbered-values ms (n + 1) ks))
 
 -- calls that were read, with equal values, are equal
-pub calls-eq : (s t : List ℕ) {ks ls : List Recorded} → AllRead s ks → AllRead t ls → valuesOfCalls (callsOf ks) ≡ valuesOfCalls (callsOf ls) → callsOf ks ≡ callsOf ls
+pub calls-eq : (s t : List ℕ) {ks ls : List Recorded} → AllRead s ks → AllRead t ls
+    → valuesOfCalls (callsOf ks) ≡ valuesOfCalls (callsOf ls) → callsOf ks ≡ callsOf ls
 unfolding callsOf valuesOfCalls
 calls-eq s t none none e = refl
 calls-eq s t none (one {k} {ks} r b) e = let z : _≡_ {A = ℕ} 0 1 = cc in absurd (omega arith)
@@ -135,5 +138,7 @@ calls-eq s t (one {k} {ks} r a) none e = let z : _≡_ {A = ℕ} 0 1 = cc in abs
 calls-eq s t (one {k} {ks} r a) (one {k = l} {ks = ls} q b) e =
     let head : callValues (recordCall (callOf (k .call))) ≡ callValues (recordCall (callOf (l .call))) = cc in
     let tail : valuesOfCalls (callsOf ks) ≡ valuesOfCalls (callsOf ls) = cc in
-    let same : k .call ≡ l .call = call-eq s t (k .place) (l .place) (k .call) (l .call) (r .next) (q .next) (r .is) (q .is) (rw (call-back (k .call), call-back (l .call)) at head) in
+    let same : k .call ≡ l .call =
+    call-eq s t (k .place) (l .place) (k .call) (l .call) (r .next) (q .next) (r .is) (q .is)
+    (rw (call-back (k .call), call-back (l .call)) at head) in
     rw (same, calls-eq s t a b tail)

@@ -42,7 +42,8 @@ module _ {s : List ℕ} {g : PlaneGuidance} {next : ℕ} (o : Opening s g next) 
   unfolding told
   calls-are = rw (o .starts, reads)
 
-parted-is : (s t : List ℕ) {g : PlaneGuidance} {a : ℕ} {h : PlaneGuidance} {b : ℕ} → Opening s g a → Opening t h b → step.parted s g a t h b ≡ parted (recording s) (recording t)
+parted-is : (s t : List ℕ) {g : PlaneGuidance} {a : ℕ} {h : PlaneGuidance} {b : ℕ} → Opening s g a → Opening t h b
+    → step.parted s g a t h b ≡ parted (recording s) (recording t)
 unfolding step.parted parted
 parted-is s t o p = rw (settings-are o, settings-are p, calls-are o, calls-are p)
 
@@ -62,7 +63,8 @@ module _ (s : List ℕ) (g : PlaneGuidance) (at : ℕ) (t : List ℕ) (h : Plane
 
 -- ---- the display's, then the box's
 
-display-is : (s t : List ℕ) {g : PlaneGuidance} {a : ℕ} → Opening s g a → (d : Decided) → Means t d → withDisplay s g a t d ≡ orRefused 2 (compacted t (recording t)) (parted (recording s) (recording t))
+display-is : (s t : List ℕ) {g : PlaneGuidance} {a : ℕ} → Opening s g a → (d : Decided) → Means t d
+    → withDisplay s g a t d ≡ orRefused 2 (compacted t (recording t)) (parted (recording s) (recording t))
 display-is s t o (ruling.Refused f) m = rw (← m .0)
 display-is s t o (ruling.Stopped n r) m = rw (← m .0)
 display-is s t o (ruling.Sound h b) m = rw (not-refused m) (parted-is s t o m)

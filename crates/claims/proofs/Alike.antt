@@ -16,7 +16,24 @@ use Rattle.laws.specs.declared.types.ControlInput.the-variants as Input
 use Rattle.laws.specs.declared.types.FlightRegime.{FlightRegime}
 use Rattle.laws.specs.declared.types.VehicleState.{VehicleState}
 use Rattle.laws.specs.declared.types.Setpoint.{Setpoint}
-use Rattle.guidance.specs.Plane.{cleared, primed, withConfig, configured, restored, takenBack, badTimeStep, badCap, refusal, allFinite, vertical, verticalLaw, commanded, waypoint, obeyed, guided}
+use Rattle.guidance.specs.Plane.{
+  cleared,
+  primed,
+  withConfig,
+  configured,
+  restored,
+  takenBack,
+  badTimeStep,
+  badCap,
+  refusal,
+  allFinite,
+  vertical,
+  verticalLaw,
+  commanded,
+  waypoint,
+  obeyed,
+  guided,
+}
 use Rattle.claims.specs.Calls.{Call, guide, prime, setConfig, takeBack, Reply, answered, Outcome, answeredBy, takenBackBy, perform, replies}
 use Rattle.guidance.specs.declared.plane.Former.{Former}
 use Rattle.guidance.specs.declared.plane.PlaneGuidance.{PlaneGuidance}

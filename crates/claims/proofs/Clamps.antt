@@ -6,7 +6,20 @@ use lib.Ieee as Ieee
 use lib.Ieee.{Float, neg, isNan, le, lt}
 use Rattle.arithmetic.specs.Constants.{_+ᶠ_, _-ᶠ_, _·ᶠ_, _/ᶠ_, n0, n1, fracPi4}
 use Rattle.arithmetic.specs.Order.{greatest, finite}
-use Rattle.arithmetic.proofs.Bounds.{AtLeastZero, between, never, and-left, and-right, left-number, right-number, finite-number, greatest-right, zero-between, le-self, zero-number}
+use Rattle.arithmetic.proofs.Bounds.{
+  AtLeastZero,
+  between,
+  never,
+  and-left,
+  and-right,
+  left-number,
+  right-number,
+  finite-number,
+  greatest-right,
+  zero-between,
+  le-self,
+  zero-number,
+}
 use Rattle.arithmetic.proofs.Sums.{sub-mono, neg-finite}
 use Rattle.laws.specs.Config.{validate}
 use Rattle.laws.specs.Math.{limitOrZero}
@@ -22,7 +35,22 @@ use Rattle.laws.specs.declared.types.VehicleState.{VehicleState}
 use Rattle.guidance.specs.Plane.{topThrust, limitsOf, inputs, capped, badTimeStep, badCap}
 use Rattle.claims.specs.Calls.{Call}
 use Rattle.claims.specs.Clamps.{FixedBounds, EnergyBounds, FallbackBounds, WaypointBounds, ClampsOrdered}
-use Rattle.claims.proofs.Spans.{Positive, is-positive, positive-least, positive-finite, at-least-zero, greatest-positive, product-left, product-right, quotient, spans, apart, difference, less, widen}
+use Rattle.claims.proofs.Spans.{
+  Positive,
+  is-positive,
+  positive-least,
+  positive-finite,
+  at-least-zero,
+  greatest-positive,
+  product-left,
+  product-right,
+  quotient,
+  spans,
+  apart,
+  difference,
+  less,
+  widen,
+}
 use Rattle.claims.proofs.Limited.{Valid, valid, cap-finite, thrust-span, pitch-span, within-finite, zero-finite}
 use Rattle.claims.proofs.Runs.{valid-along}
 

@@ -13,7 +13,30 @@ use Rattle.laws.specs.Config.{tecsDefault, default, firstFailing, validate}
 use Rattle.laws.specs.Math.{limitOrZero, clampSymmetric, saturateSymmetric, saturateUnit, saturateThrottle, lagged, allFinite}
 use Rattle.laws.specs.Types.{atLeastZero, validAirspeed}
 use Rattle.laws.specs.Navigation.{noCourse, loiterAccel, finiteLeg, lateralAccel, bankForAccel, piPinned, piFinite, piStep}
-use Rattle.laws.specs.Tecs.{reset, updateUnderspeed, clampAirspeed, seedDemand, previousDemand, slewedHeight, slewedAirspeed, nextDemand, seedFilter, previousFilter, nextFilter, energiesOf, energies, turnRate, feedforward, balancedThrust, thrust, pitchIntegral, pitch, allInputsFinite, hold, energyStep}
+use Rattle.laws.specs.Tecs.{
+  reset,
+  updateUnderspeed,
+  clampAirspeed,
+  seedDemand,
+  previousDemand,
+  slewedHeight,
+  slewedAirspeed,
+  nextDemand,
+  seedFilter,
+  previousFilter,
+  nextFilter,
+  energiesOf,
+  energies,
+  turnRate,
+  feedforward,
+  balancedThrust,
+  thrust,
+  pitchIntegral,
+  pitch,
+  allInputsFinite,
+  hold,
+  energyStep,
+}
 use Rattle.laws.specs.declared.config.PlaneGuidanceConfig.{PlaneGuidanceConfig}
 use Rattle.laws.specs.declared.types.OptionF32.the-variants.{Some}
 use Rattle.guidance.specs.Plane as Plane

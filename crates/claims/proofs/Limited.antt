@@ -11,7 +11,25 @@ use borrow.Author.Tests.{eqb-true}
 use Rattle.arithmetic.specs.Constants.{_+ᶠ_, _-ᶠ_, _·ᶠ_, _/ᶠ_, n0, fracPi2}
 use Rattle.arithmetic.specs.Order.{greatest, clamp, finite, choose}
 use Rattle.arithmetic.specs.Trigonometry.{arctangent}
-use Rattle.arithmetic.proofs.Bounds.{never, and-left, and-right, le-self, left-number, right-number, finite-number, clamped-low, clamped-high, unclamped, zero-between, greatest-right, greatest-le, least-zero, least-finite, zero-number, eq-self}
+use Rattle.arithmetic.proofs.Bounds.{
+  never,
+  and-left,
+  and-right,
+  le-self,
+  left-number,
+  right-number,
+  finite-number,
+  clamped-low,
+  clamped-high,
+  unclamped,
+  zero-between,
+  greatest-right,
+  greatest-le,
+  least-zero,
+  least-finite,
+  zero-number,
+  eq-self,
+}
 use Rattle.arithmetic.proofs.Sums.{le-trans, sub-mono, neg-finite, between-finite, add-number}
 use Rattle.laws.specs.Config.{within, firstFailing, tecsDefault, default, validate}
 use Rattle.laws.proofs.Validated.{valid-field}
@@ -35,9 +53,59 @@ use Rattle.laws.specs.declared.types.ControlInput.the-variants as Input
 use Rattle.laws.specs.declared.types.FlightRegime.{FlightRegime}
 use Rattle.laws.specs.declared.types.VehicleState.{VehicleState}
 use Rattle.laws.specs.declared.types.Setpoint.{Setpoint}
-use Rattle.guidance.specs.Plane.{noFormer, northEast, orZero, capped, topThrust, limitsOf, inputs, rollOf, heightError, fallback, vertical, verticalLaw, steered, finiteState, allFinite, fresh, cleared, primed, withConfig, configured, restored, takenBack, badTimeStep, badCap, refusal, flown, settled, commanded, waypoint, obeyed, guided}
+use Rattle.guidance.specs.Plane.{
+  noFormer,
+  northEast,
+  orZero,
+  capped,
+  topThrust,
+  limitsOf,
+  inputs,
+  rollOf,
+  heightError,
+  fallback,
+  vertical,
+  verticalLaw,
+  steered,
+  finiteState,
+  allFinite,
+  fresh,
+  cleared,
+  primed,
+  withConfig,
+  configured,
+  restored,
+  takenBack,
+  badTimeStep,
+  badCap,
+  refusal,
+  flown,
+  settled,
+  commanded,
+  waypoint,
+  obeyed,
+  guided,
+}
 use Rattle.claims.specs.Calls.{Call, guide, prime, setConfig, takeBack, Reply, answered, done, field, back, Outcome, answeredBy, perform, refused, replies}
-use Rattle.claims.specs.Limits.{InForce, atStart, underspeedAt, underspeedBy, underspeedAfter, inForceAfter, Between, InSpan, EnergyLimits, HoldLimits, Corrected, FallbackPitch, FallbackLimits, VerticalLimits, WaypointLimits, Obeys, AllObey}
+use Rattle.claims.specs.Limits.{
+  InForce,
+  atStart,
+  underspeedAt,
+  underspeedBy,
+  underspeedAfter,
+  inForceAfter,
+  Between,
+  InSpan,
+  EnergyLimits,
+  HoldLimits,
+  Corrected,
+  FallbackPitch,
+  FallbackLimits,
+  VerticalLimits,
+  WaypointLimits,
+  Obeys,
+  AllObey,
+}
 use Rattle.guidance.specs.declared.plane.PlaneGuidance.{PlaneGuidance}
 use Rattle.guidance.specs.declared.plane.VerticalLaw.{VerticalLaw}
 use Rattle.guidance.specs.declared.plane.VerticalLaw.the-variants.{Energy, Hold, Fallback}

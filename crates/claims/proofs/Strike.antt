@@ -16,8 +16,54 @@ use Rattle.laws.specs.declared.types.ControlInput.the-variants as Input
 use Rattle.laws.specs.declared.types.FlightRegime.{FlightRegime}
 use Rattle.laws.specs.declared.types.VehicleState.{VehicleState}
 use Rattle.laws.specs.declared.types.Setpoint.{Setpoint}
-use Rattle.guidance.specs.Plane.{isWaypoint, noIntegral, fresh, cleared, primed, withConfig, configured, restored, takenBack, badTimeStep, badCap, refusal, allFinite, vertical, verticalLaw, steered, settled, commanded, waypoint, obeyed, guided}
-use Rattle.claims.specs.Calls.{Call, guide, prime, setConfig, takeBack, Reply, answered, perform, refused, replies, after, refusals, lawIs, isHold, isFallback, holds, fellBack, struck, strikes, unmarked, startsFresh, settingsOf, freshWith}
+use Rattle.guidance.specs.Plane.{
+  isWaypoint,
+  noIntegral,
+  fresh,
+  cleared,
+  primed,
+  withConfig,
+  configured,
+  restored,
+  takenBack,
+  badTimeStep,
+  badCap,
+  refusal,
+  allFinite,
+  vertical,
+  verticalLaw,
+  steered,
+  settled,
+  commanded,
+  waypoint,
+  obeyed,
+  guided,
+}
+use Rattle.claims.specs.Calls.{
+  Call,
+  guide,
+  prime,
+  setConfig,
+  takeBack,
+  Reply,
+  answered,
+  perform,
+  refused,
+  replies,
+  after,
+  refusals,
+  lawIs,
+  isHold,
+  isFallback,
+  holds,
+  fellBack,
+  struck,
+  strikes,
+  unmarked,
+  startsFresh,
+  settingsOf,
+  freshWith,
+}
 use Rattle.guidance.specs.declared.plane.PlaneGuidance.{PlaneGuidance}
 use Rattle.guidance.specs.declared.plane.VerticalLaw.{VerticalLaw}
 use Rattle.guidance.specs.declared.plane.VerticalLaw.the-variants.{Energy, Hold, Fallback}

@@ -97,7 +97,9 @@ each-alone :
     × (told (with bank45 usual) nan ≡ false ∷ false ∷ true ∷ false ∷ false ∷ [])
     × (told (with bank45 huge) n0 ≡ false ∷ false ∷ false ∷ true ∷ false ∷ [])
     × (told (with bank45 tiny) n0 ≡ false ∷ false ∷ false ∷ false ∷ true ∷ [])
-unfolding rollOf lateralAccel finiteLeg allFinite trackAccel trackBy trackAlong l1 capture course bankForAccel clampSymmetric limitOrZero clamp sine arcsine arctangent arctangentOfSize part series size finite normalise norm dot cross rootOf noCourse default tecsDefault isNan ofBits lt le eq neg add sub mul div
+unfolding rollOf lateralAccel finiteLeg allFinite trackAccel trackBy trackAlong l1 capture course bankForAccel clampSymmetric limitOrZero
+    clamp sine arcsine arctangent arctangentOfSize part series size finite normalise norm dot cross rootOf noCourse default tecsDefault
+    isNan ofBits lt le eq neg add sub mul div
 each-alone = (refl, refl, refl, refl, refl)
 
 -- 100 m north of a loiter's centre, 16 m/s west: its tangent leads east

@@ -15,7 +15,30 @@ use Rattle.laws.specs.Config.{tecsDefault, default, firstFailing, validate}
 use Rattle.laws.specs.Math.{limitOrZero, clampSymmetric, saturateSymmetric, saturateUnit, saturateThrottle, lagged, allFinite}
 use Rattle.laws.specs.Types.{atLeastZero, validAirspeed}
 use Rattle.laws.specs.Navigation.{noCourse, idle, crossTrack, loiterAccel, finiteLeg, lateralAccel, bankForAccel, piPinned, piFinite, piStep}
-use Rattle.laws.specs.Tecs.{reset, updateUnderspeed, clampAirspeed, seedDemand, previousDemand, slewedHeight, slewedAirspeed, nextDemand, seedFilter, previousFilter, nextFilter, energiesOf, energies, turnRate, feedforward, balancedThrust, thrust, pitchIntegral, pitch, allInputsFinite, hold, energyStep}
+use Rattle.laws.specs.Tecs.{
+  reset,
+  updateUnderspeed,
+  clampAirspeed,
+  seedDemand,
+  previousDemand,
+  slewedHeight,
+  slewedAirspeed,
+  nextDemand,
+  seedFilter,
+  previousFilter,
+  nextFilter,
+  energiesOf,
+  energies,
+  turnRate,
+  feedforward,
+  balancedThrust,
+  thrust,
+  pitchIntegral,
+  pitch,
+  allInputsFinite,
+  hold,
+  energyStep,
+}
 use Rattle.laws.specs.declared.config.TecsConfig.{TecsConfig}
 use Rattle.laws.specs.declared.config.PlaneGuidanceConfig.{PlaneGuidanceConfig}
 use Rattle.laws.specs.declared.types.OptionF32.{OptionF32}
@@ -26,7 +49,32 @@ use Rattle.laws.specs.declared.types.FlightRegime.the-variants as Regime
 use Rattle.laws.specs.declared.types.VehicleState.{VehicleState}
 use Rattle.guidance.specs.Plane as Plane
 use Rattle.guidance.specs.Plane.{fresh, answerValues}
-use Rattle.claims.specs.Calls.{Call, guide, prime, setConfig, takeBack, Reply, answered, done, field, back, perform, refused, replies, after, refusals, lawIs, isFallback, fellBack, struck, holds, unmarked, startsFresh, settingsOf, freshWith}
+use Rattle.claims.specs.Calls.{
+  Call,
+  guide,
+  prime,
+  setConfig,
+  takeBack,
+  Reply,
+  answered,
+  done,
+  field,
+  back,
+  perform,
+  refused,
+  replies,
+  after,
+  refusals,
+  lawIs,
+  isFallback,
+  fellBack,
+  struck,
+  holds,
+  unmarked,
+  startsFresh,
+  settingsOf,
+  freshWith,
+}
 use Rattle.claims.specs.Limits.{InForce, atStart, underspeedAt, inForceAfter}
 use Rattle.guidance.specs.declared.plane.PlaneGuidance.{PlaneGuidance}
 use Rattle.guidance.specs.declared.plane.Answer.the-variants.{Refused, Commanded, Waypoint}

@@ -11,7 +11,8 @@ use Rattle.compaction.specs.declared.Compacted.{Compacted}
 use Rattle.compaction.specs.declared.Compacted.the-variants as answer
 use Rattle.compaction.proofs.LawsProof.{within}
 
-pub fits : (s after rest : List ℕ) (r : Compacted) (n : ℕ) → r ≡ compacted s (recording s) → after ≡ bytesAfter s (recording s) → r ≡ answer.Length n → n ≤ length (after ++ rest)
+pub fits : (s after rest : List ℕ) (r : Compacted) (n : ℕ) → r ≡ compacted s (recording s)
+    → after ≡ bytesAfter s (recording s) → r ≡ answer.Length n → n ≤ length (after ++ rest)
 fits s after rest r n e b q =
     let w : n ≤ length after = rw b (within s n (sym e ∙ q)) in
     omega (arith, length-append after rest)

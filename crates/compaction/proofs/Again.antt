@@ -15,7 +15,27 @@ use Rattle.guidance.specs.Plane.{fresh, verticalLaw}
 use Rattle.guidance.specs.declared.plane.PlaneGuidance.{PlaneGuidance}
 use Rattle.guidance.specs.declared.plane.VerticalLaw.{VerticalLaw}
 use Rattle.guidance.specs.declared.plane.VerticalLaw.the-variants.{Energy, Hold, Fallback}
-use Rattle.claims.specs.Calls.{Call, guide, prime, setConfig, takeBack, Reply, perform, refused, replies, refusals, lawIs, isHold, isFallback, holds, fellBack, struck, strikes, unmarked, marks}
+use Rattle.claims.specs.Calls.{
+  Call,
+  guide,
+  prime,
+  setConfig,
+  takeBack,
+  Reply,
+  perform,
+  refused,
+  replies,
+  refusals,
+  lawIs,
+  isHold,
+  isFallback,
+  holds,
+  fellBack,
+  struck,
+  strikes,
+  unmarked,
+  marks,
+}
 use Rattle.claims.proofs.Demand3.{demand3}
 
 -- no mark at all
@@ -73,7 +93,8 @@ strikes-again before (k ∷ ks) (r ∷ rs) h = go (struck before k r) refl (stri
     Rest = strikes (fellBack before k r) ks rs
 
     go : (b : Bool) → struck before k r ≡ b → strikes (fellBack before k r) (unmarked Rest ks) (unmarked Rest rs) ≡ noMarks (unmarked Rest ks)
-        → strikes before (cond b (unmarked Rest ks) (k ∷ unmarked Rest ks)) (cond b (unmarked Rest rs) (r ∷ unmarked Rest rs)) ≡ noMarks (cond b (unmarked Rest ks) (k ∷ unmarked Rest ks))
+        → strikes before (cond b (unmarked Rest ks) (k ∷ unmarked Rest ks)) (cond b (unmarked Rest rs) (r ∷ unmarked Rest rs))
+        ≡ noMarks (cond b (unmarked Rest ks) (k ∷ unmarked Rest ks))
     go true e ih = ap (λ (b : Bool). strikes b (unmarked Rest ks) (unmarked Rest rs)) (sym (fell-stays before k r e)) ∙ ih
     go false e ih = λ i. e i ∷ ih i
 
@@ -90,7 +111,8 @@ refusals-long g [] = refl
 refusals-long g (k ∷ ks) = ap suc (refusals-long (perform g k .next) ks)
 
 -- nothing of a run's remaining calls is struck
-pub marks-again : (c : PlaneGuidanceConfig) → validate c ≡ 0 → (ks : List Call) → let ms = marks (fresh c) ks in marks (fresh c) (unmarked ms ks) ≡ noMarks (unmarked ms ks)
+pub marks-again : (c : PlaneGuidanceConfig) → validate c ≡ 0 → (ks : List Call)
+    → let ms = marks (fresh c) ks in marks (fresh c) (unmarked ms ks) ≡ noMarks (unmarked ms ks)
 marks-again c v ks =
     let ms = marks (fresh c) ks in
     rw (demand3 c v ks .struck, refusals-unmarked ms (replies (fresh c) ks)) (strikes-again false ks (refusals (replies (fresh c) ks)) (refusals-long (fresh c) ks))

@@ -54,7 +54,8 @@ module _ {s₀ : List ℕ} {to from size : ℕ} {s : List ℕ} {i : ℕ} (f : Sh
   unwritten : i < size → getD s (from + i) 0 ≡ getD s₀ (from + i) 0
   unwritten h =
       let rest : drop (to + i) s ≡ drop (to + i) s₀ =
-      rw moved-long at (ap (drop (to + length (take i (drop from s₀)))) (f .is) ∙ put-rest s₀ to (take i (drop from s₀)) (omega (arith, moved-long, f .order, f .room, f .below))) in
+      rw moved-long at (ap (drop (to + length (take i (drop from s₀)))) (f .is)
+      ∙ put-rest s₀ to (take i (drop from s₀)) (omega (arith, moved-long, f .order, f .room, f .below))) in
       let e : from + i ≡ to + i + (from - to) = omega (arith, f .order) in
       rw (e, ← getD-drop (to + i) s (from - to) 0, ← getD-drop (to + i) s₀ (from - to) 0, rest)
 

@@ -34,7 +34,9 @@ stay g before ks = unmarked (strikes before (callsOf ks) (refusals (replies g (c
 -- one call more
 stay-cons : (g : PlaneGuidance) (before : Bool) (k : Recorded) (ks : List Recorded)
     → let o = perform g (callOf (k .call)) in let r = refused (o .reply) in
-    stay g before (k ∷ ks) ≡ cond (struck before (callOf (k .call)) r) (stay (o .next) (fellBack before (callOf (k .call)) r) ks) (k ∷ stay (o .next) (fellBack before (callOf (k .call)) r) ks)
+    stay g before (k ∷ ks)
+    ≡ cond (struck before (callOf (k .call)) r) (stay (o .next) (fellBack before (callOf (k .call)) r) ks)
+    (k ∷ stay (o .next) (fellBack before (callOf (k .call)) r) ks)
 unfolding callsOf replies refusals strikes unmarked
 stay-cons g before k ks = refl
 
@@ -68,7 +70,8 @@ pub record Closing (s₀ : List ℕ) (from : ℕ) (first : PlaneGuidance) (s : L
       let ks = readCalls mostCalls s₀ from .calls in
       take to s ++ recordsAt s₀ (stay g fell (readCalls left s₀ at .calls)) ≡ take from s₀ ++ recordsAt s₀ (unmarked (marks first (callsOf ks)) ks)
 
-pub close-starts : (s : List ℕ) (from : ℕ) (first : PlaneGuidance) → from ≤ length s → readCalls mostCalls s from .ending ≡ ends → Closing s from first s first from from false
+pub close-starts : (s : List ℕ) (from : ℕ) (first : PlaneGuidance) → from ≤ length s
+    → readCalls mostCalls s from .ending ≡ ends → Closing s from first s first from from false
 close-starts s from first h e = record { long = refl; order = omega arith; within = h; unread = refl; left = mostCalls; ended = e; is = refl }
 
 module _ {s₀ : List ℕ} {from : ℕ} {first : PlaneGuidance} {s : List ℕ} {g : PlaneGuidance} {at to : ℕ} {fell : Bool} (f : Closing s₀ from first s g at to fell) where
@@ -164,7 +167,8 @@ module _ {s₀ : List ℕ} {from : ℕ} {first : PlaneGuidance} {s : List ℕ} {
     ended-after : (ks : More c next) → readCalls (ks .rest) s₀ next .ending ≡ ends
     ended-after ks = rw (ks .are) at (f .ended)
 
-    turn : (after : List ℕ) (r : ℕ) (ks : More c next) (b : Bool) → struck fell (callOf c) (refused (Then .reply)) ≡ b → Moved b to (take (next - at) (drop at s)) s after r
+    turn : (after : List ℕ) (r : ℕ) (ks : More c next) (b : Bool) → struck fell (callOf c) (refused (Then .reply)) ≡ b
+        → Moved b to (take (next - at) (drop at s)) s after r
         → Closing s₀ from first after (Then .next) next r Fell
     turn after r ks true q m = record {
       long = ap length (m .bytes) ∙ f .long;

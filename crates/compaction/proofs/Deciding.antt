@@ -54,7 +54,8 @@ module _ (s : List ℕ) where
     unfolding recording compacted bytesAfter
     field-refused v = (rw (e, v), rw (e, v))
 
-    call-refused : eqb (validate c) 0 ≡ true → (r : ℕ) → readCalls mostCalls s next .ending ≡ stops r → Refuses s (answer.Stopped (1 + length (readCalls mostCalls s next .calls)) r)
+    call-refused : eqb (validate c) 0 ≡ true → (r : ℕ) → readCalls mostCalls s next .ending ≡ stops r
+        → Refuses s (answer.Stopped (1 + length (readCalls mostCalls s next .calls)) r)
     unfolding recording compacted bytesAfter
     call-refused v r q = (rw (e, v, q), rw (e, v, q))
 

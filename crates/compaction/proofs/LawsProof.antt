@@ -170,7 +170,9 @@ refusal s (badConfig r) = refl
 refusal s (recorded c calls) = go (eqb (validate c) 0) (calls .ending) refl
   where
     go : (b : Bool) (e : Ending) → calls .ending ≡ e
-        → cond b (runLines 1 (fresh c) calls) (refusedLine 0 (validate c) ∷ []) ≡ cond b (callLines 1 (fresh c) (calls .calls)) [] ++ refusalLines (cond b (compactedCalls s c (calls .calls) (calls .ending)) (answer.Refused (validate c)))
+        → cond b (runLines 1 (fresh c) calls) (refusedLine 0 (validate c) ∷ [])
+        ≡ cond b (callLines 1 (fresh c) (calls .calls)) []
+        ++ refusalLines (cond b (compactedCalls s c (calls .calls) (calls .ending)) (answer.Refused (validate c)))
     go true ends q = rw q
     go true (stops r) q = rw q
     go false e q = refl
@@ -180,7 +182,9 @@ unfolding compacted bytesAfter
 kept s (badConfig r) h = refl
 kept s (recorded c calls) h = go (eqb (validate c) 0) (calls .ending) refl h
   where
-    go : (b : Bool) (e : Ending) → calls .ending ≡ e → ((n : ℕ) → cond b (compactedCalls s c (calls .calls) (calls .ending)) (answer.Refused (validate c)) ≡ answer.Length n → ⊥)
+    go : (b : Bool) (e : Ending) → calls .ending ≡ e
+        → ((n : ℕ) → cond b (compactedCalls s c (calls .calls) (calls .ending)) (answer.Refused (validate c)) ≡ answer.Length n
+        → ⊥)
         → cond b (bytesOfCalls s c (calls .calls) (calls .ending)) s ≡ s
     go true ends q h = absurd (h (length (short s c (calls .calls))) (rw q))
     go true (stops r) q h = rw q

@@ -78,5 +78,7 @@ module _ {s : List ℕ} {from at n : ℕ} (f : Scanning s from at n) where
       let j : 4097 - (n + 1) ≡ 4096 - n = omega arith in
       record {
         high = omega arith;
-        is = rw j (sym (scanned-more n (record { place = at; call = call }) (readCalls (4096 - n) s next)) ∙ ap (scanned n) (sym (rw k (calls-more s at (4096 - n) call next l e))) ∙ f .is);
+        is =
+            rw j (sym (scanned-more n (record { place = at; call = call }) (readCalls (4096 - n) s next))
+            ∙ ap (scanned n) (sym (rw k (calls-more s at (4096 - n) call next l e))) ∙ f .is);
       }

@@ -85,7 +85,10 @@ call-refuses s at r =
     go (hasBytes s at 4) (complete map) (hasBytes s at (4 + sizeOf callFields map)) (unknown (getD values 0 0) (getD values 1 0))
     (at + (4 + sizeOf callFields map)) (records.callAt (getD values 0 0) (regimeOf (getD values 1 0)) map (floatsOf (drop 2 values)))
   where
-    go : (a b c d : Bool) (n : ℕ) (k : Read) → cond (not a) (read.Refused 5) (cond (not b) (read.Refused 6) (cond (not c) (read.Refused 5) (cond d (read.Refused 7) (read.Read k n)))) ≡ read.Refused r → 0 < r
+    go : (a b c d : Bool) (n : ℕ) (k : Read)
+        → cond (not a) (read.Refused 5)
+        (cond (not b) (read.Refused 6) (cond (not c) (read.Refused 5) (cond d (read.Refused 7) (read.Read k n)))) ≡ read.Refused r
+        → 0 < r
     go false b c d n k e = let z : 5 ≡ r = cc in omega arith
     go true false c d n k e = let z : 6 ≡ r = cc in omega arith
     go true true false d n k e = let z : 5 ≡ r = cc in omega arith
@@ -93,7 +96,13 @@ call-refuses s at r =
     go true true true false n k e = let z : _≡_ {A = ℕ} 0 1 = cc in absurd (omega arith)
 
 whole-over : (s : List ℕ) (n at : ℕ) → length s ≤ at → Whole s n at (noCalls ends)
-whole-over s n at l = record { read = none; few = omega arith; fills = λ q. records-none s ∙ sym (drop-of-length-le s l); proper = λ (q : ends ≡ stops 0). let z : _≡_ {A = ℕ} 0 1 = cc in omega arith }
+whole-over s n at l =
+    record {
+      read = none;
+      few = omega arith;
+      fills = λ q. records-none s ∙ sym (drop-of-length-le s l);
+      proper = λ (q : ends ≡ stops 0). let z : _≡_ {A = ℕ} 0 1 = cc in omega arith;
+    }
 
 whole-stops : (s : List ℕ) (n at r : ℕ) → 0 < r → Whole s n at (noCalls (stops r))
 whole-stops s n at r h = record {
@@ -127,7 +136,8 @@ whole s zero at h = go (leb (length s) at) refl
     go false e = rw (calls-nine s at (leb-false (length s) at e)) (whole-stops s 0 at 9 (omega arith))
 whole s (suc n) at h = go (leb (length s) at) refl (λ (next : ℕ). whole s n next)
   where
-    onward : at < length s → (r : ReadCall) → readCall s at ≡ r → ((next : ℕ) → next ≤ length s → Whole s n next (readCalls n s next)) → Whole s (suc n) at (readCalls (suc n) s at)
+    onward : at < length s → (r : ReadCall) → readCall s at ≡ r
+        → ((next : ℕ) → next ≤ length s → Whole s n next (readCalls n s next)) → Whole s (suc n) at (readCalls (suc n) s at)
     onward l (read.Refused r) e ih = rw (calls-bad s at n r l e) (whole-stops s (suc n) at r (call-refuses s at r e))
     onward l (read.Read k next) e ih = rw (calls-more s at n k next l e) (whole-more s n at k next (readCalls n s next) h e (ih next (call-within s at k next e .1)))
 

@@ -13,7 +13,8 @@ use Rattle.replay.proofs.Cut.{text-read}
 use Rattle.lines.proofs.PutLaw.{put-long}
 use Rattle.desk.specs.Shown.{Shown}
 
-pub shown : (read out after : List ℕ) (n : ℕ) → textRoom ≤ length out → n ≡ length (recordingText read) → after ≡ putAt out 0 (recordingText read) → Shown read after n
+pub shown : (read out after : List ℕ) (n : ℕ) → textRoom ≤ length out → n ≡ length (recordingText read)
+    → after ≡ putAt out 0 (recordingText read) → Shown read after n
 shown read out after n room e p =
     let front : take n after ≡ recordingText read = rw (p, e) (take-append-seam (recordingText read) _) in
     let long : length after ≡ length out = rw p (put-long out 0 (recordingText read) (omega (arith, text-fits read))) in

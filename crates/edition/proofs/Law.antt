@@ -11,7 +11,8 @@ use Rattle.editions.specs.declared.Converted.the-variants.{Places}
 use Rattle.edition_laws.specs.Laws.{convertedTo}
 use Rattle.edition_laws.proofs.ThereAndBack.{there-and-back}
 
-module _ (wanted : Edition) (s : List ℕ) (at : ℕ) (out : List ℕ) (place : ℕ) (a : Converted) (next end : ℕ) (e : a ≡ convertedTo wanted s at out place) (q : a ≡ Places next end) where
+module _ (wanted : Edition) (s : List ℕ) (at : ℕ) (out : List ℕ) (place : ℕ) (a : Converted) (next end : ℕ)
+    (e : a ≡ convertedTo wanted s at out place) (q : a ≡ Places next end) where
   pub further : at < next
   further = there-and-back wanted s at out place next end (sym e ∙ q) .1 .further
 

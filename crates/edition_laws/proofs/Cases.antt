@@ -6,7 +6,23 @@ use Rattle.fields.specs.Bytes.{numberAt, bytesOf}
 use Rattle.fields.specs.Fields.{sizeOf, valuesAt, mapOf, bodyOf, numberFields}
 use Rattle.fields.specs.Numbers.{floatsOf, bitsOf}
 use Rattle.records.specs.declared.call.ReadCall.the-variants.{Read}
-use Rattle.records.specs.Call.{zero, callFields, complete, unknown, regimeOf, callAt, waypointAt, stateAt, legOf, optionOf, partsOf, waypointParts, valuesOf, mapOfParts, callRecord}
+use Rattle.records.specs.Call.{
+  zero,
+  callFields,
+  complete,
+  unknown,
+  regimeOf,
+  callAt,
+  waypointAt,
+  stateAt,
+  legOf,
+  optionOf,
+  partsOf,
+  waypointParts,
+  valuesOf,
+  mapOfParts,
+  callRecord,
+}
 use Rattle.editions.specs.declared.Edition.the-variants.{First, Second}
 use Rattle.editions.specs.Edition.{flips, flipsStanding, readAs, recordAs}
 use Rattle.edition_laws.specs.Cases.{Cases, atAltitude, minusZero}

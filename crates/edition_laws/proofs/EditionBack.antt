@@ -196,7 +196,8 @@ flips-twice [] n (v ∷ vs) w h = absurd h
 flips-twice (f ∷ fs) n [] w h = absurd h
 flips-twice (f ∷ fs) n (v ∷ vs) w h = go (isDown n) (w .0) (flips-twice fs (suc n) vs (w .1) (h .1))
   where
-    go : (d : Bool) → T (not d || eqb (f .bytes) 4) → flips (suc n) (flips (suc n) vs) ≡ vs → cond d (flip (cond d (flip v) v)) (cond d (flip v) v) ∷ flips (suc n) (flips (suc n) vs) ≡ v ∷ vs
+    go : (d : Bool) → T (not d || eqb (f .bytes) 4) → flips (suc n) (flips (suc n) vs) ≡ vs
+        → cond d (flip (cond d (flip v) v)) (cond d (flip v) v) ∷ flips (suc n) (flips (suc n) vs) ≡ v ∷ vs
     go true t ih =
         let e : f .bytes ≡ 4 = four (f .bytes) t in
         let small : v < 256 ^ 4 = rw e at (h .0) in

@@ -49,7 +49,8 @@ record Accepted (wanted : Edition) (a : ReadCall) (out : List ℕ) (place next e
 no-places : {A : Type 0} {r next end : ℕ} → converted.Refused r ≡ converted.Places next end → A
 no-places e = let z : _≡_ {A = ℕ} 0 1 = cc in absurd (omega arith)
 
-accepted : (wanted : Edition) (a : ReadCall) (out : List ℕ) (place next end : ℕ) → answer wanted a out place ≡ converted.Places next end → Accepted wanted a out place next end
+accepted : (wanted : Edition) (a : ReadCall) (out : List ℕ) (place next end : ℕ)
+    → answer wanted a out place ≡ converted.Places next end → Accepted wanted a out place next end
 unfolding answer answerOf
 accepted wanted (Refused r) out place next end e = no-places e
 accepted wanted (Read c k) out place next end e = go (hasBytes out place (length (recordAs wanted c))) refl e

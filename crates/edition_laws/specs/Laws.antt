@@ -65,4 +65,6 @@ ThereAndBack =
 
 -- a refusal keeps every byte
 abbrev pub Kept : Type 0
-Kept = (wanted : Edition) (s : List ℕ) (at : ℕ) (out : List ℕ) (place r : ℕ) → convertedTo wanted s at out place ≡ converted.Refused r → after wanted s at out place ≡ out
+Kept =
+    (wanted : Edition) (s : List ℕ) (at : ℕ) (out : List ℕ) (place r : ℕ)
+    → convertedTo wanted s at out place ≡ converted.Refused r → after wanted s at out place ≡ out

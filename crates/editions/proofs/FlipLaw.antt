@@ -89,8 +89,16 @@ values-turned (f ∷ fs) n m s w h =
         → ((r : List ℕ) → sizeOf fs (m / 2) ≤ length r → valuesAt fs (m / 2) (turned fs (suc n) (m / 2) r) ≡ flipsStanding (suc n) (m / 2) (valuesAt fs (m / 2) r))
         → cond b (f .bytes) 0 + sizeOf fs (m / 2) ≤ length s
         → cond b
-        (numberAt (f .bytes) (cond b (cond d (bytesOf 4 (flip (numberAt 4 s))) (take (f .bytes) s) ++ turned fs (suc n) (m / 2) (drop (f .bytes) s)) (turned fs (suc n) (m / 2) s)) ∷ valuesAt fs (m / 2) (drop (f .bytes) (cond b (cond d (bytesOf 4 (flip (numberAt 4 s))) (take (f .bytes) s) ++ turned fs (suc n) (m / 2) (drop (f .bytes) s)) (turned fs (suc n) (m / 2) s))))
-        (f .missing ∷ valuesAt fs (m / 2) (cond b (cond d (bytesOf 4 (flip (numberAt 4 s))) (take (f .bytes) s) ++ turned fs (suc n) (m / 2) (drop (f .bytes) s)) (turned fs (suc n) (m / 2) s)))
+        (numberAt (f .bytes) (cond b
+        (cond d (bytesOf 4 (flip (numberAt 4 s))) (take (f .bytes) s) ++ turned fs (suc n) (m / 2) (drop (f .bytes) s))
+        (turned fs (suc n) (m / 2) s))
+        ∷ valuesAt fs (m / 2) (drop (f .bytes) (cond b
+        (cond d (bytesOf 4 (flip (numberAt 4 s))) (take (f .bytes) s) ++ turned fs (suc n) (m / 2) (drop (f .bytes) s))
+        (turned fs (suc n) (m / 2) s))))
+        (f .missing
+        ∷ valuesAt fs (m / 2) (cond b
+        (cond d (bytesOf 4 (flip (numberAt 4 s))) (take (f .bytes) s) ++ turned fs (suc n) (m / 2) (drop (f .bytes) s))
+        (turned fs (suc n) (m / 2) s)))
         ≡ flipsStanding n m (cond b (numberAt (f .bytes) s ∷ valuesAt fs (m / 2) (drop (f .bytes) s)) (f .missing ∷ valuesAt fs (m / 2) s))
     go true true eb ed t ih l =
         let e : f .bytes ≡ 4 = four (f .bytes) t in
@@ -114,7 +122,9 @@ turned-body (f ∷ fs) n m (v ∷ vs) rest w l = go (stands m) (isDown n) (w .0)
   where
     go : (b d : Bool) → T (not d || eqb (f .bytes) 4) → turned fs (suc n) (m / 2) (bodyOf fs (m / 2) vs ++ rest) ≡ bodyOf fs (m / 2) (flips (suc n) vs) ++ rest
         → cond b
-        (cond d (bytesOf 4 (flip (numberAt 4 ((cond b (bytesOf (f .bytes) v) [] ++ bodyOf fs (m / 2) vs) ++ rest)))) (take (f .bytes) ((cond b (bytesOf (f .bytes) v) [] ++ bodyOf fs (m / 2) vs) ++ rest)) ++ turned fs (suc n) (m / 2) (drop (f .bytes) ((cond b (bytesOf (f .bytes) v) [] ++ bodyOf fs (m / 2) vs) ++ rest)))
+        (cond d (bytesOf 4 (flip (numberAt 4 ((cond b (bytesOf (f .bytes) v) [] ++ bodyOf fs (m / 2) vs) ++ rest))))
+        (take (f .bytes) ((cond b (bytesOf (f .bytes) v) [] ++ bodyOf fs (m / 2) vs) ++ rest))
+        ++ turned fs (suc n) (m / 2) (drop (f .bytes) ((cond b (bytesOf (f .bytes) v) [] ++ bodyOf fs (m / 2) vs) ++ rest)))
         (turned fs (suc n) (m / 2) ((cond b (bytesOf (f .bytes) v) [] ++ bodyOf fs (m / 2) vs) ++ rest))
         ≡ (cond b (bytesOf (f .bytes) (cond d (flip v) v)) [] ++ bodyOf fs (m / 2) (flips (suc n) vs)) ++ rest
     go true true t ih =
@@ -149,7 +159,8 @@ unfolding turned sizeOf Wide
 turned-long [] n m s w h = refl
 turned-long (f ∷ fs) n m s w h = go (stands m) (λ (r : List ℕ) (k : sizeOf fs (m / 2) ≤ length r). turned-long fs (suc n) (m / 2) r (w .1) k) h
   where
-    go : (b : Bool) → ((r : List ℕ) → sizeOf fs (m / 2) ≤ length r → length (turned fs (suc n) (m / 2) r) ≡ length r) → cond b (f .bytes) 0 + sizeOf fs (m / 2) ≤ length s
+    go : (b : Bool) → ((r : List ℕ) → sizeOf fs (m / 2) ≤ length r → length (turned fs (suc n) (m / 2) r) ≡ length r)
+        → cond b (f .bytes) 0 + sizeOf fs (m / 2) ≤ length s
         → length (cond b (turnedField n (f .bytes) s ++ turned fs (suc n) (m / 2) (drop (f .bytes) s)) (turned fs (suc n) (m / 2) s)) ≡ length s
     go true ih l =
         let rest : length (drop (f .bytes) s) ≡ length s - f .bytes = length-drop (f .bytes) s in

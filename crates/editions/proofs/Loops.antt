@@ -107,7 +107,9 @@ module _ {p₀ : List ℕ} {map : ℕ} {p : List ℕ} {at m i : ℕ} (f : Turnin
   pub turn-room : i < 22 → m % 2 ≡ 1 → at + bytesAt i ≤ length p
   turn-room h b = omega (arith, f .place, f .room, f .long, size-stands i h m b)
 
-  pub turn-turn : i < 22 → m % 2 ≡ 1 → (q : List ℕ) → q ≡ take at p ++ (turnedField i (bytesAt i) (drop at p) ++ drop (at + bytesAt i) p) → (next : ℕ) → next ≡ at + bytesAt i
+  pub turn-turn : i < 22 → m % 2 ≡ 1 → (q : List ℕ)
+      → q ≡ take at p ++ (turnedField i (bytesAt i) (drop at p) ++ drop (at + bytesAt i) p) → (next : ℕ)
+      → next ≡ at + bytesAt i
       → Turning p₀ map q next (m / 2) (i + 1)
   turn-turn h b q e next en =
       let w = bytesAt i in

@@ -69,7 +69,8 @@ module _ (e : Edition) (s : List ℕ) (at : ℕ) where
   unfolding readAs
   cut h = rw (lt-leb (at + 4) (length s) h)
 
-  module _ (h : at + 4 ≤ length s) (map : ℕ) (em : map ≡ numberAt 4 (take (length s - at) (drop at s))) (b m : ℕ) (eb : b ≡ map / 4194304 % 2) (ef : m ≡ map - 4194304 * b) where
+  module _ (h : at + 4 ≤ length s) (map : ℕ) (em : map ≡ numberAt 4 (take (length s - at) (drop at s))) (b m : ℕ)
+      (eb : b ≡ map / 4194304 % 2) (ef : m ≡ map - 4194304 * b) where
     pub is-map : numberAt 4 (drop at s) ≡ map
     is-map = ap (numberAt 4) (sym (rest-is s at)) ∙ sym em
 
@@ -84,7 +85,8 @@ module _ (e : Edition) (s : List ℕ) (at : ℕ) where
           rw (le-leb (at + 4) (length s) h, is-map, fields-are map b m eb ef, ← ec, q, of-other e map b eb (λ (k : b ≡ markOf e). n (k ∙ sym ew)))
 
 -- the first edition is read by the call reader
-module _ (s : List ℕ) (at : ℕ) (h : at + 4 ≤ length s) (map : ℕ) (em : map ≡ numberAt 4 (take (length s - at) (drop at s))) (b m : ℕ) (eb : b ≡ map / 4194304 % 2) (ef : m ≡ map - 4194304 * b) where
+module _ (s : List ℕ) (at : ℕ) (h : at + 4 ≤ length s) (map : ℕ) (em : map ≡ numberAt 4 (take (length s - at) (drop at s)))
+    (b m : ℕ) (eb : b ≡ map / 4194304 % 2) (ef : m ≡ map - 4194304 * b) where
   pub first-is : (e : Edition) → b ≡ markOf e → b ≡ 0 → complete m ≡ true → readCall s at ≡ readAs e s at
   unfolding readAs readCall
   first-is First ew z q =
@@ -124,7 +126,8 @@ module _ (s : List ℕ) (at m : ℕ) (h : at + 4 ≤ length s) (e : numberAt 4 (
     values-back =
         rw (drop-bytes 4 m (turned callFields 0 m (drop 4 p)))
         (values-turned callFields 0 m (drop 4 p) call-wide rest-room
-        ∙ ap (flipsStanding 0 m) (same-values 4 (4 + sizeOf callFields m) p (drop at s) alike (omega arith) callFields m (omega arith) ∙ ap (valuesAt callFields m) (drop-drop 4 at s)))
+        ∙ ap (flipsStanding 0 m) (same-values 4 (4 + sizeOf callFields m) p (drop at s) alike (omega arith) callFields m (omega arith)
+        ∙ ap (valuesAt callFields m) (drop-drop 4 at s)))
 
     long-is : length Turned ≡ length p
     long-is =
@@ -151,16 +154,19 @@ module _ (s : List ℕ) (at m : ℕ) (h : at + 4 ≤ length s) (e : numberAt 4 (
           q,
           le-leb (at + (4 + sizeOf callFields m)) (length s) l,
         )
-        (outcome (unknown (getD vs 0 0) (getD vs 1 0)) (callAt (getD vs 0 0) (regimeOf (getD vs 1 0)) m (floatsOf (drop 2 vs))) (at + (4 + sizeOf callFields m)) (0 + (4 + sizeOf callFields m)))
+        (outcome (unknown (getD vs 0 0) (getD vs 1 0)) (callAt (getD vs 0 0) (regimeOf (getD vs 1 0)) m (floatsOf (drop 2 vs)))
+        (at + (4 + sizeOf callFields m)) (0 + (4 + sizeOf callFields m)))
 
 -- `read_second`: n is the fields' byte count, p the copy, p₁ and p₂ what turning and writing the map make of it, a the reader's answer
 pub second-answer : (s : List ℕ) (at m : ℕ) → at + 4 ≤ length s → numberAt 4 (drop at s) ≡ mark + m → complete m ≡ true → (n : ℕ) → n ≡ sizeOf callFields m
     → at + (4 + n) ≤ length s → (p p₁ p₂ : List ℕ) → take (4 + n) p ≡ take (4 + n) (drop at s) → 4 + n ≤ length p
-    → p₁ ≡ take 4 p ++ turned callFields 0 m (drop 4 p) → p₂ ≡ bytesOf 4 m ++ drop 4 p₁ → (a : ReadCall) → a ≡ readCall p₂ 0 → placed (at + (4 + n)) a ≡ readAs Second s at
+    → p₁ ≡ take 4 p ++ turned callFields 0 m (drop 4 p) → p₂ ≡ bytesOf 4 m ++ drop 4 p₁ → (a : ReadCall)
+    → a ≡ readCall p₂ 0 → placed (at + (4 + n)) a ≡ readAs Second s at
 second-answer s at m h e q n en l p p₁ p₂ alike room e₁ e₂ a ea =
     let l' : at + (4 + sizeOf callFields m) ≤ length s = rw en at l in
     let alike' : take (4 + sizeOf callFields m) p ≡ take (4 + sizeOf callFields m) (drop at s) = rw en at alike in
     let room' : 4 + sizeOf callFields m ≤ length p = rw en at room in
     let front : length (take 4 p) ≡ 4 = length-take-le 4 p (omega arith) in
-    let turned-is : p₂ ≡ bytesOf 4 m ++ turned callFields 0 m (drop 4 p) = e₂ ∙ rw e₁ (ap (λ (x : List ℕ). bytesOf 4 m ++ x) (drop-at (take 4 p) (turned callFields 0 m (drop 4 p)) 4 front)) in
+    let turned-is : p₂ ≡ bytesOf 4 m ++ turned callFields 0 m (drop 4 p) =
+    e₂ ∙ rw e₁ (ap (λ (x : List ℕ). bytesOf 4 m ++ x) (drop-at (take 4 p) (turned callFields 0 m (drop 4 p)) 4 front)) in
     rw (en, ea, turned-is) (second-is s at m h e q l' p alike' room')

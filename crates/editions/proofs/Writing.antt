@@ -32,7 +32,8 @@ use Rattle.editions.specs.code.Steps.{turned, turnedRecord}
 use Rattle.editions.proofs.FlipLaw.{call-wide, turned-body, flips-long}
 
 -- `turn_record`: p₁ and p₂ are what turning and writing the map make of p
-pub record-turned : (p p₁ p₂ : List ℕ) (m : ℕ) → 4 ≤ length p → m ≡ numberAt 4 p → p₁ ≡ take 4 p ++ turned callFields 0 m (drop 4 p) → p₂ ≡ bytesOf 4 (mark + m) ++ drop 4 p₁
+pub record-turned : (p p₁ p₂ : List ℕ) (m : ℕ) → 4 ≤ length p → m ≡ numberAt 4 p
+    → p₁ ≡ take 4 p ++ turned callFields 0 m (drop 4 p) → p₂ ≡ bytesOf 4 (mark + m) ++ drop 4 p₁
     → p₂ ≡ turnedRecord p
 record-turned p p₁ p₂ m h em e₁ e₂ =
     let front : length (take 4 p) ≡ 4 = length-take-le 4 p h in
@@ -115,7 +116,8 @@ module _ (c : Call) where
     kept r out₁ ea eb = rw same-long (go (hasBytes out at (length (callRecord c))) ea eb)
       where
         go : (b : Bool) → Refused r ≡ cond b (Next (at + length (callRecord c))) (Refused 8) → out₁ ≡ cond b (putAt out at (callRecord c)) out
-            → (Refused r ≡ cond b (Next (at + length (callRecord c))) (Refused 8)) × (out₁ ≡ cond b (take at out ++ (recordAs Second c ++ drop (at + length (callRecord c)) out)) out)
+            → (Refused r ≡ cond b (Next (at + length (callRecord c))) (Refused 8))
+            × (out₁ ≡ cond b (take at out ++ (recordAs Second c ++ drop (at + length (callRecord c)) out)) out)
         go true ea eb = let z : _≡_ {A = ℕ} 0 1 = cc in absurd (omega arith)
         go false ea eb = (ea, eb)
 

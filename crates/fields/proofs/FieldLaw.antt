@@ -104,7 +104,8 @@ values-none m s = refl
 module _ (v : List ℕ) (m : ℕ) (s : List ℕ) (i : ℕ) (h : i < length v) where
   -- a turn that reads
   reads : m % 2 ≡ 1
-      → take (i + 1) (set v i (numberAt 4 s)) ++ valuesAt (numberFields (drop (i + 1) (set v i (numberAt 4 s)))) (m / 2) (drop 4 s) ≡ take i v ++ valuesAt (numberFields (drop i v)) m s
+      → take (i + 1) (set v i (numberAt 4 s)) ++ valuesAt (numberFields (drop (i + 1) (set v i (numberAt 4 s)))) (m / 2) (drop 4 s)
+      ≡ take i v ++ valuesAt (numberFields (drop i v)) m s
   unfolding valuesAt numberFields
   reads e =
       rw
@@ -155,7 +156,8 @@ module _ {s : List ℕ} {from map : ℕ} {v₀ v : List ℕ} {at m i : ℕ} (f :
   pub read-part : i < length v → m % 2 ≡ 1 → 4 ≤ length (take (length s - at) (drop at s))
   read-part h b = rw (rest-is s at) (simp length-drop (omega (arith, read-room h b)))
 
-  pub read-turn : i < length v → m % 2 ≡ 1 → (x : ℕ) → x ≡ numberAt 4 (take (length s - at) (drop at s)) → Reading s from map v₀ (set v i x) (at + 4) (m / 2) (i + 1)
+  pub read-turn : i < length v → m % 2 ≡ 1 → (x : ℕ) → x ≡ numberAt 4 (take (length s - at) (drop at s))
+      → Reading s from map v₀ (set v i x) (at + 4) (m / 2) (i + 1)
   read-turn h b x e =
       record {
         below = simp length-set (omega arith);
@@ -191,7 +193,8 @@ put-more out at n a b l h =
     let front : length (take at out ++ a) ≡ at + n = simp length-append (omega (arith, length-take-le at out (omega arith))) in
     let whole : take at out ++ (a ++ drop n (drop at out)) ≡ (take at out ++ a) ++ drop n (drop at out) = sym (append-assoc (take at out) a _) in
     let first : take (at + n) (take at out ++ (a ++ drop n (drop at out))) ≡ take at out ++ a = rw whole (take-at (take at out ++ a) (drop n (drop at out)) (at + n) front) in
-    let last : drop (at + n) (take at out ++ (a ++ drop n (drop at out))) ≡ drop (at + n) out = rw whole (drop-at (take at out ++ a) (drop n (drop at out)) (at + n) front ∙ drop-drop n at out) in
+    let last : drop (at + n) (take at out ++ (a ++ drop n (drop at out))) ≡ drop (at + n) out =
+    rw whole (drop-at (take at out ++ a) (drop n (drop at out)) (at + n) front ∙ drop-drop n at out) in
     let tail : drop (at + n + length b) (take at out ++ (a ++ drop n (drop at out))) ≡ drop (at + n + length b) out =
     sym (drop-drop (length b) (at + n) _) ∙ ap (drop (length b)) last ∙ drop-drop (length b) (at + n) out in
     let size : at + length (a ++ b) ≡ at + n + length b = simp length-append (omega arith) in
@@ -202,7 +205,8 @@ pub put-none : (out : List ℕ) (at : ℕ) → out ≡ putAt out at []
 put-none out at = sym (rw (add-zero at) (take-append-drop at out))
 
 -- bytes put from a place on, and then more from where they end
-pub put-next : (p : List ℕ) (at n : ℕ) (a b : List ℕ) {q r : List ℕ} → q ≡ putAt p at a → n ≡ at + length a → n ≤ length p → r ≡ putAt q n b → r ≡ putAt p at (a ++ b)
+pub put-next : (p : List ℕ) (at n : ℕ) (a b : List ℕ) {q r : List ℕ} → q ≡ putAt p at a → n ≡ at + length a
+    → n ≤ length p → r ≡ putAt q n b → r ≡ putAt p at (a ++ b)
 put-next p at n a b eq en h er =
     let whole = eq ∙ ap (λ (l : List ℕ). take at p ++ (a ++ l)) (sym (drop-drop (length a) at p)) in
     er ∙ rw (whole, en) (put-more p at (length a) a b refl (omega arith))
@@ -220,7 +224,8 @@ put-lent out p at bs h e =
     rest-back out p at h ∙ rw (e, rest-is out at, z, drop-drop (length bs) at out)
 
 -- bytes at the front of a part, and then more after them
-pub put-after : (n : ℕ) (p₀ p₁ p₂ a b : List ℕ) → length a ≡ n → n ≤ length p₀ → p₁ ≡ a ++ drop n p₀ → p₂ ≡ putAt p₁ n b → p₂ ≡ putAt p₀ 0 (a ++ b)
+pub put-after : (n : ℕ) (p₀ p₁ p₂ a b : List ℕ) → length a ≡ n → n ≤ length p₀ → p₁ ≡ a ++ drop n p₀
+    → p₂ ≡ putAt p₁ n b → p₂ ≡ putAt p₀ 0 (a ++ b)
 put-after n p₀ p₁ p₂ a b l h e₁ e₂ =
     let z : 0 + n ≡ n = omega arith in
     e₂ ∙ rw e₁ (rw z at (put-more p₀ 0 n a b l (omega arith)))
@@ -392,7 +397,9 @@ map-starts keep v missing =
 
 module _ {keep v missing : List ℕ} {m i : ℕ} (f : Mapping keep v missing m i) (lv : length v ≡ length keep) (ld : length missing ≡ length keep) where
   map-step : (j : ℕ) → suc j ≡ i
-      → mapOf (numberFields (drop j missing)) (drop j keep) (drop j v) ≡ bitOf (isWritten (getD keep j 0) (getD v j 0) (getD missing j 0)) + 2 * mapOf (numberFields (drop i missing)) (drop i keep) (drop i v)
+      → mapOf (numberFields (drop j missing)) (drop j keep) (drop j v)
+      ≡ bitOf (isWritten (getD keep j 0) (getD v j 0) (getD missing j 0))
+      + 2 * mapOf (numberFields (drop i missing)) (drop i keep) (drop i v)
   unfolding mapOf numberFields
   map-step j e = rw (← e, drop-cons keep j 0 (omega (arith, f .below)), drop-cons v j 0 (omega (arith, f .below)), drop-cons missing j 0 (omega (arith, f .below)))
 
@@ -409,7 +416,8 @@ module _ {keep v missing : List ℕ} {m i : ℕ} (f : Mapping keep v missing m i
             rw (q, pow-suc 2 (length keep - i)) (omega (arith, f .small, e, bit-small (isWritten (getD keep (i - 1) 0) (getD v (i - 1) 0) (getD missing (i - 1) 0))));
       }
 
-pub map-done : {keep v missing : List ℕ} {m i : ℕ} → Mapping keep v missing m i → length v ≡ length keep → length missing ≡ length keep → length keep ≤ 40 → i ≤ 0
+pub map-done : {keep v missing : List ℕ} {m i : ℕ} → Mapping keep v missing m i → length v ≡ length keep
+    → length missing ≡ length keep → length keep ≤ 40 → i ≤ 0
     → (m ≡ mapOf (numberFields missing) keep v) × (m < 2 ^ length keep) × (m < 2 ^ 40)
 map-done {keep} {v} {missing} {m} {i} f lv ld h k =
     let z : i ≡ 0 = omega arith in

@@ -43,7 +43,12 @@ float-none s from map n v e z =
 
 pub float-starts : (s : List ℕ) (from map n : ℕ) (v : List Float) → v ≡ none n → from + 4 * ones n map ≤ length s → Floating s from map n v from map 0
 float-starts s from map n v e h =
-    record { words = replicate n 0; are = e ∙ sym (floats-none n); long = rw e (length-replicate n (ofBits binary32 0)); reading = read-starts s from map (replicate n 0) (rw (length-replicate {A = ℕ} n 0) h) }
+    record {
+      words = replicate n 0;
+      are = e ∙ sym (floats-none n);
+      long = rw e (length-replicate n (ofBits binary32 0));
+      reading = read-starts s from map (replicate n 0) (rw (length-replicate {A = ℕ} n 0) h);
+    }
 
 module _ {s : List ℕ} {from map n : ℕ} {v : List Float} {at m i : ℕ} (f : Floating s from map n v at m i) where
   words-long : length v ≡ length (f .words)

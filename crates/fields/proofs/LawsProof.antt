@@ -16,14 +16,16 @@ use Rattle.fields.specs.Laws.{Laws, Untouched}
 
 module _ {Value Answer : Type 0} (F32 : Value → Type 0) (bytes : Value → List ℕ) (read : List ℕ → ℕ → Answer) (got : Value → ℕ → Answer)
     -- wherever the record stands, with anything after it
-    (stands : (s : List ℕ) (at : ℕ) (v : Value) (rest : List ℕ) → at ≤ length s → drop at s ≡ bytes v ++ rest → F32 v → read s at ≡ got v (at + length (bytes v)))
+    (stands : (s : List ℕ) (at : ℕ) (v : Value) (rest : List ℕ) → at ≤ length s → drop at s ≡ bytes v ++ rest → F32 v
+    → read s at ≡ got v (at + length (bytes v)))
     (held : (s : List ℕ) (at : ℕ) (v : Value) (next : ℕ) → read s at ≡ got v next → F32 v)
     (no-longer : (s : List ℕ) (at : ℕ) (v : Value) (next : ℕ) → read s at ≡ got v next → at + length (bytes v) ≤ next)
     (one : (v w : Value) (m n : ℕ) → got v m ≡ got w n → v ≡ w) where
   alone : (v : Value) → F32 v → read (bytes v) 0 ≡ got v (length (bytes v))
   alone v f = let z : 0 + length (bytes v) ≡ length (bytes v) = omega arith in rw z at (stands (bytes v) 0 v [] (omega arith) (sym (append-nil (bytes v))) f)
 
-  written : (out : List ℕ) (at : ℕ) (v : Value) → F32 v → hasBytes out at (length (bytes v)) ≡ true → read (bufferOf out at (bytes v)) at ≡ got v (at + length (bytes v))
+  written : (out : List ℕ) (at : ℕ) (v : Value) → F32 v → hasBytes out at (length (bytes v)) ≡ true
+      → read (bufferOf out at (bytes v)) at ≡ got v (at + length (bytes v))
   unfolding bufferOf
   written out at v f e =
       let h : at + length (bytes v) ≤ length out = leb-true _ _ e in
@@ -67,5 +69,7 @@ unfolding bufferOf
 untouched out at bs = go (hasBytes out at (length bs)) refl
   where
     go : (b : Bool) → hasBytes out at (length bs) ≡ b → Untouched out at bs
-    go true e = let h : at + length bs ≤ length out = leb-true _ _ e in record { before = rw e (put-before out at bs h); after = rw e (put-after out at bs h); long = rw e (put-long out at bs h) }
+    go true e =
+        let h : at + length bs ≤ length out = leb-true _ _ e in
+        record { before = rw e (put-before out at bs h); after = rw e (put-after out at bs h); long = rw e (put-long out at bs h) }
     go false e = record { before = rw e; after = rw e; long = rw e }

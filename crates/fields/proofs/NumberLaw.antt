@@ -105,7 +105,8 @@ module _ {p₀ : List ℕ} {n number : ℕ} {p : List ℕ} {v i : ℕ} (w : Writ
         room = w .room;
         is =
             rw (add-one i, take-suc-set p i (v % 256) here, drop-set-lt n p i (v % 256) h, ← add-one i)
-            (append-assoc (take i p) (v % 256 ∷ []) (bytesOf (n - (i + 1)) (v / 256) ++ drop n p) ∙ ap (λ (bs : List ℕ). take i p ++ (bs ++ drop n p)) (sym (first-byte h)) ∙ w .is);
+            (append-assoc (take i p) (v % 256 ∷ []) (bytesOf (n - (i + 1)) (v / 256) ++ drop n p)
+            ∙ ap (λ (bs : List ℕ). take i p ++ (bs ++ drop n p)) (sym (first-byte h)) ∙ w .is);
       }
 
   no-bytes : n ≤ i → bytesOf (n - i) v ≡ []

@@ -79,7 +79,9 @@ fields-back (f ∷ fs) (k ∷ ks) (v ∷ vs) rest lk h =
   where
     go : (b : Bool) → isWritten k v (f .missing) ≡ b → valuesAt fs (mapOf fs ks vs) (bodyOf fs (mapOf fs ks vs) vs ++ rest) ≡ vs
         → cond b
-        (numberAt (f .bytes) ((cond b (bytesOf (f .bytes) v) [] ++ bodyOf fs (mapOf fs ks vs) vs) ++ rest) ∷ valuesAt fs (mapOf fs ks vs) (drop (f .bytes) ((cond b (bytesOf (f .bytes) v) [] ++ bodyOf fs (mapOf fs ks vs) vs) ++ rest)))
+        (numberAt (f .bytes) ((cond b (bytesOf (f .bytes) v) [] ++ bodyOf fs (mapOf fs ks vs) vs) ++ rest)
+        ∷ valuesAt fs (mapOf fs ks vs)
+        (drop (f .bytes) ((cond b (bytesOf (f .bytes) v) [] ++ bodyOf fs (mapOf fs ks vs) vs) ++ rest)))
         (f .missing ∷ valuesAt fs (mapOf fs ks vs) ((cond b (bytesOf (f .bytes) v) [] ++ bodyOf fs (mapOf fs ks vs) vs) ++ rest))
         ≡ v ∷ vs
     go true e ih =

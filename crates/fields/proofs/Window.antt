@@ -29,7 +29,9 @@ unfolding valuesAt sizeOf
 values-take [] m n s h = refl
 values-take (f ∷ fs) m n s h = go (stands m) (λ (j : ℕ) (r : List ℕ). values-take fs (m / 2) j r) h
   where
-    go : (b : Bool) → ((j : ℕ) (r : List ℕ) → sizeOf fs (m / 2) ≤ j → valuesAt fs (m / 2) (take j r) ≡ valuesAt fs (m / 2) r) → cond b (f .bytes) 0 + sizeOf fs (m / 2) ≤ n
+    go : (b : Bool)
+        → ((j : ℕ) (r : List ℕ) → sizeOf fs (m / 2) ≤ j → valuesAt fs (m / 2) (take j r) ≡ valuesAt fs (m / 2) r)
+        → cond b (f .bytes) 0 + sizeOf fs (m / 2) ≤ n
         → cond b (numberAt (f .bytes) (take n s) ∷ valuesAt fs (m / 2) (drop (f .bytes) (take n s))) (f .missing ∷ valuesAt fs (m / 2) (take n s))
         ≡ cond b (numberAt (f .bytes) s ∷ valuesAt fs (m / 2) (drop (f .bytes) s)) (f .missing ∷ valuesAt fs (m / 2) s)
     go true ih l = rw (number-take (f .bytes) n s (omega arith), drop-take (f .bytes) n s, ih (n - f .bytes) (drop (f .bytes) s) (omega arith))

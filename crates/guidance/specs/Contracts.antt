@@ -14,7 +14,26 @@ use Rattle.laws.specs.declared.types.ControlInput.the-variants as Input
 use Rattle.laws.specs.declared.types.WaypointCommand.{WaypointCommand}
 use Rattle.laws.specs.declared.types.FlightRegime.{FlightRegime}
 use Rattle.laws.specs.declared.types.VehicleState.{VehicleState}
-use Rattle.guidance.specs.Plane.{isWaypoint, created, sticks, rates, absoluteAttitude, absoluteRate, neutral, verticalLaw, vertical, rollOf, crossTrackOf, allFinite, badTimeStep, badCap, guided, refusalNumber, setpointValues, answerValues}
+use Rattle.guidance.specs.Plane.{
+  isWaypoint,
+  created,
+  sticks,
+  rates,
+  absoluteAttitude,
+  absoluteRate,
+  neutral,
+  verticalLaw,
+  vertical,
+  rollOf,
+  crossTrackOf,
+  allFinite,
+  badTimeStep,
+  badCap,
+  guided,
+  refusalNumber,
+  setpointValues,
+  answerValues,
+}
 use Rattle.guidance.specs.declared.plane.PlaneGuidance.{PlaneGuidance}
 use Rattle.guidance.specs.declared.plane.Created.{Created}
 use Rattle.guidance.specs.declared.plane.Created.the-variants as New

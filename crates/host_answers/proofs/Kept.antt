@@ -17,7 +17,8 @@ either : (b : Bool) (x y : Guided) {t : Settings} → settingsOf (x .guidance) �
 either true x y p q = p
 either false x y p q = q
 
-obeyed-keeps : (g : PlaneGuidance) (dt : Float) (r : FlightRegime) (k : ControlInput) (s : VehicleState) (cap : OptionF32) → settingsOf (obeyed g dt r k s cap .guidance) ≡ settingsOf g
+obeyed-keeps : (g : PlaneGuidance) (dt : Float) (r : FlightRegime) (k : ControlInput) (s : VehicleState) (cap : OptionF32)
+    → settingsOf (obeyed g dt r k s cap .guidance) ≡ settingsOf g
 unfolding obeyed commanded cleared waypoint
 obeyed-keeps g dt r (Input.Attitude k) s cap = refl
 obeyed-keeps g dt r (Input.Rate k) s cap = refl
@@ -26,6 +27,7 @@ obeyed-keeps g dt r (Input.AbsoluteAttitude k) s cap = refl
 obeyed-keeps g dt r Input.Land s cap = refl
 obeyed-keeps g dt r (Input.AbsoluteRate k) s cap = refl
 
-pub guided-keeps : (g : PlaneGuidance) (dt : Float) (r : FlightRegime) (k : ControlInput) (s : VehicleState) (cap : OptionF32) → settingsOf (guided g dt r k s cap .guidance) ≡ settingsOf g
+pub guided-keeps : (g : PlaneGuidance) (dt : Float) (r : FlightRegime) (k : ControlInput) (s : VehicleState) (cap : OptionF32)
+    → settingsOf (guided g dt r k s cap .guidance) ≡ settingsOf g
 unfolding guided
 guided-keeps g dt r k s cap = either (badTimeStep dt) _ _ refl (obeyed-keeps g dt r k s cap)

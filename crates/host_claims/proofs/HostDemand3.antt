@@ -17,7 +17,24 @@ use Rattle.host_answers.specs.declared.answer.RunAnswer.{RunAnswer}
 use Rattle.host.specs.declared.run.Ran.{Ran}
 use Rattle.host_claims.specs.Inputs.{Input, aCall, aFresh, meaning, runOn, answers, left, callsOf, OneList, refused, inputMarks, told}
 use Rattle.host_claims.specs.Demand3.{BesideFresh, HostDemand3}
-use Rattle.host_claims.proofs.Told.{runAs, run-is, refused-is, answers-told, left-after, calls-left, told-left, still-one, one-before, one-after, one-rest, calls-next, calls-join, passes, fresh-next, answers-join}
+use Rattle.host_claims.proofs.Told.{
+  runAs,
+  run-is,
+  refused-is,
+  answers-told,
+  left-after,
+  calls-left,
+  told-left,
+  still-one,
+  one-before,
+  one-after,
+  one-rest,
+  calls-next,
+  calls-join,
+  passes,
+  fresh-next,
+  answers-join,
+}
 
 struck-list : (c : PlaneGuidanceConfig) → validate c ≡ 0 → (is : List Input) → OneList is →
     answers (fresh c) (unmarked (inputMarks (fresh c) is) is) ≡ unmarked (inputMarks (fresh c) is) (answers (fresh c) is)

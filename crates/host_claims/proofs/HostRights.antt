@@ -15,7 +15,26 @@ use Rattle.host.specs.Run as running
 use Rattle.host.specs.Run.{runBy}
 use Rattle.host.specs.Mode.{reportBy}
 use Rattle.host_routes.specs.Route.{runRouteBy, loadBy, loadBufferBy, writeBy, writeBufferBy}
-use Rattle.host_claims.specs.Rights.{Held, Ask, run, route, load, write, report, Sent, Told, askedBy, step, deedOf, isForbidden, isWatchers, refusal, lentBy, lentAfter, HostRights}
+use Rattle.host_claims.specs.Rights.{
+  Held,
+  Ask,
+  run,
+  route,
+  load,
+  write,
+  report,
+  Sent,
+  Told,
+  askedBy,
+  step,
+  deedOf,
+  isForbidden,
+  isWatchers,
+  refusal,
+  lentBy,
+  lentAfter,
+  HostRights,
+}
 
 -- ---- a forbidden call
 

@@ -28,7 +28,32 @@ use Rattle.rights.specs.Rights.{may}
 use Rattle.host.specs.Run.{unchanged, performed, made, ofCall, ofConfig, ofNew, runCall, runConfig, runNew, runBack, run, deedOf, runBy}
 use Rattle.host_answers.specs.declared.answer.RunAnswer.{RunAnswer}
 use Rattle.host.specs.declared.run.Ran.{Ran}
-use Rattle.host_claims.specs.Inputs.{Input, Meaning, aCall, aFresh, refusedAs, callMeaning, configMeaning, newOf, newMeaning, asked, meaning, runOn, answers, left, callsBy, callsOf, NoFresh, OneList, refused, struckBy, fellBackBy, strikesBy, toldBy, told}
+use Rattle.host_claims.specs.Inputs.{
+  Input,
+  Meaning,
+  aCall,
+  aFresh,
+  refusedAs,
+  callMeaning,
+  configMeaning,
+  newOf,
+  newMeaning,
+  asked,
+  meaning,
+  runOn,
+  answers,
+  left,
+  callsBy,
+  callsOf,
+  NoFresh,
+  OneList,
+  refused,
+  struckBy,
+  fellBackBy,
+  strikesBy,
+  toldBy,
+  told,
+}
 
 -- ---- one input
 
@@ -184,7 +209,9 @@ unfolding told
 told-next i m is rs e = ap (λ (x : Meaning). toldBy x rs (λ rest. told is rest)) e
 
 told-left-by : (b : Bool) (g : PlaneGuidance) (i : Input) (m : Meaning) (is : List Input) → meaning i ≡ m → NoFresh m →
-    ((d : Bool) (h : PlaneGuidance) → told (unmarked (InputMarks d h is) is) (unmarked (CallMarks d h (callsOf is)) (replies h (callsOf is))) ≡ unmarked (InputMarks d h is) (answers h is)) →
+    ((d : Bool) (h : PlaneGuidance)
+    → told (unmarked (InputMarks d h is) is) (unmarked (CallMarks d h (callsOf is)) (replies h (callsOf is)))
+    ≡ unmarked (InputMarks d h is) (answers h is)) →
     let a = runAs g m .answer in
     let ms = struckBy b m a ∷ InputMarks (fellBackBy b m a) (runAs g m .guidance) is in
     told (unmarked ms (i ∷ is)) (unmarked (CallMarks b g (callsBy m (callsOf is))) (replies g (callsBy m (callsOf is))))
@@ -207,7 +234,10 @@ pub told-left : (b : Bool) (g : PlaneGuidance) (is : List Input) → OneList is 
 unfolding callsOf unmarked OneList strikesBy strikes told answers replies
 told-left b g [] n = refl
 told-left b g (i ∷ is) n =
-    ap (λ (ms : List Bool). told (unmarked ms (i ∷ is)) (unmarked (CallMarks b g (callsBy (meaning i) (callsOf is))) (replies g (callsBy (meaning i) (callsOf is))))) (marks-next b g i is)
+    ap (λ (ms : List Bool).
+    told (unmarked ms (i ∷ is))
+    (unmarked (CallMarks b g (callsBy (meaning i) (callsOf is))) (replies g (callsBy (meaning i) (callsOf is)))))
+    (marks-next b g i is)
     ∙ told-left-by b g i (meaning i) is refl (n .0) (λ d h. told-left d h is (n .1))
     ∙ ap (λ (ms : List Bool). unmarked ms (runAs g (meaning i) .answer ∷ answers (runAs g (meaning i) .guidance) is)) (sym (marks-next b g i is))
     ∙ ap (unmarked (InputMarks b g (i ∷ is))) (sym (answers-next g i is))

@@ -85,7 +85,8 @@ pub decimal-is : (n v : ℕ) → decimalIn n v ≡ digits 10 (length (decimalIn 
 decimal-is zero v = rw (decimal-none v) (sym (digits-none 10 v))
 decimal-is (suc n) v = go (ltb v 10) refl (decimal-is n (v / 10))
   where
-    go : (b : Bool) → ltb v 10 ≡ b → decimalIn n (v / 10) ≡ digits 10 (length (decimalIn n (v / 10))) (v / 10) → decimalIn (suc n) v ≡ digits 10 (length (decimalIn (suc n) v)) v
+    go : (b : Bool) → ltb v 10 ≡ b → decimalIn n (v / 10) ≡ digits 10 (length (decimalIn n (v / 10))) (v / 10)
+        → decimalIn (suc n) v ≡ digits 10 (length (decimalIn (suc n) v)) v
     go true e ih =
         let h : v < 10 = ltb-true v 10 e in
         let m : v % 10 ≡ v = omega arith in

@@ -139,7 +139,8 @@ module _ {v : List ℕ} {count : ℕ} {part₀ part : List ℕ} {at i : ℕ} (f 
         wrote = rw (values-next v i (omega (arith, f .whole))) (wrote-rest list-space (hex8 (getD v i 0)) p r (omega (arith, f .room, f .place, l)) q);
       }
 
-pub list-done : {v : List ℕ} {count : ℕ} {part₀ part : List ℕ} {at i : ℕ} → Listing v count part₀ part at i → count ≤ i → Puts (values (take count v)) part₀ part at
+pub list-done : {v : List ℕ} {count : ℕ} {part₀ part : List ℕ} {at i : ℕ} → Listing v count part₀ part at i → count ≤ i
+    → Puts (values (take count v)) part₀ part at
 list-done {v} {count} {part₀} {part} {at} {i} f h =
     let e : i ≡ count = omega (arith, f .below) in
     rw e at (wrote-all (f .wrote))
@@ -157,11 +158,17 @@ pub numbers-long : (n : ℕ) (vs : List ℕ) → length (numbers n vs) ≡ lengt
 unfolding numbers
 numbers-long n vs = length-append (refusal n) (values vs)
 
-pub text-long : (l : Line) → length (text l) ≡ length (subject (l .number)) + length (words (l .first) (l .second)) + length (numbers (l .refusal) (take (l .count) (l .values))) + 1
+pub text-long : (l : Line)
+    → length (text l)
+    ≡ length (subject (l .number)) + length (words (l .first) (l .second)) + length (numbers (l .refusal) (take (l .count) (l .values)))
+    + 1
 unfolding text
 text-long l = simp length-append
 
-pub line-put : (l : Line) {part₀ part : List ℕ} {at : ℕ} → Wrote part₀ part at (subject (l .number) ++ words (l .first) (l .second) ++ numbers (l .refusal) (take (l .count) (l .values)) ++ (10 ∷ [])) → Puts (text l) part₀ part at
+pub line-put : (l : Line) {part₀ part : List ℕ} {at : ℕ}
+    → Wrote part₀ part at
+    (subject (l .number) ++ words (l .first) (l .second) ++ numbers (l .refusal) (take (l .count) (l .values)) ++ (10 ∷ []))
+    → Puts (text l) part₀ part at
 unfolding text
 line-put l f = wrote-all f
 
@@ -201,4 +208,14 @@ refusal-short n = go (eqb n 0)
 pub text-short : (l : Line) → l .count ≤ 4 → length (text l) ≤ 80
 text-short l h =
     let few : length (take (l .count) (l .values)) ≤ 4 = simp length-take (omega arith) in
-    omega (arith, text-long l, words-long (l .first) (l .second), numbers-long (l .refusal) (take (l .count) (l .values)), values-long (take (l .count) (l .values)), word-short (l .first), word-short (l .second), subject-short (l .number), refusal-short (l .refusal))
+    omega (
+      arith,
+      text-long l,
+      words-long (l .first) (l .second),
+      numbers-long (l .refusal) (take (l .count) (l .values)),
+      values-long (take (l .count) (l .values)),
+      word-short (l .first),
+      word-short (l .second),
+      subject-short (l .number),
+      refusal-short (l .refusal),
+    )

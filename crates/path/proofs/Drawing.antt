@@ -40,7 +40,8 @@ next-is : (n : ℕ) (k : WaypointCall) (m : Model) →
 unfolding path
 next-is n k m = refl
 
-pub moves : (n : ℕ) (k : WaypointCall) (m : Model) (s : Stepped) → s ≡ step k m → s .moved ≡ true → path (suc n) k m ≡ onward (s .model .state .«position_m») (path n k (s .model))
+pub moves : (n : ℕ) (k : WaypointCall) (m : Model) (s : Stepped) → s ≡ step k m → s .moved ≡ true
+    → path (suc n) k m ≡ onward (s .model .state .«position_m») (path n k (s .model))
 moves n k m s e h = next-is n k m ∙ rw (← e, h)
 
 pub stops : (n : ℕ) (k : WaypointCall) (m : Model) (s : Stepped) → s ≡ step k m → s .moved ≡ false → path (suc n) k m ≡ stoppedHere (s .reason)
@@ -95,7 +96,8 @@ module _ {k : WaypointCall} {steps : ℕ} {out₀ : List Float} {m₀ : Model} {
   ended : (p : Path) → path (steps - n) k m ≡ p → p .points ≡ [] →
       (out ≡ put (path steps k m₀ .points) out₀) × (n ≡ length (path steps k m₀ .points))
   ended p e z = (
-    sym (ap (λ (ps : List Vec3). take (3 * n) out ++ put ps (drop (3 * n) out)) (ap (λ (q : Path). q .points) e ∙ z) ∙ rw (put-none (drop (3 * n) out)) (take-append-drop (3 * n) out)) ∙ d .numbers,
+    sym (ap (λ (ps : List Vec3). take (3 * n) out ++ put ps (drop (3 * n) out)) (ap (λ (q : Path). q .points) e ∙ z)
+        ∙ rw (put-none (drop (3 * n) out)) (take-append-drop (3 * n) out)) ∙ d .numbers,
     sym (ap (λ (ps : List Vec3). n + length ps) (ap (λ (q : Path). q .points) e ∙ z) ∙ no-more) ∙ d .count,
   )
 

@@ -57,24 +57,30 @@ Next b p r rest = cond b (onward p rest) (stoppedHere r)
 begins-points : (n more : ℕ) (k : WaypointCall) (m : Model) → path n k m .points ≡ take n (path (n + more) k m .points)
 unfolding path
 begins-points zero more k m = refl
-begins-points (suc n) more k m = rw (suc-add n more) (go (step k m .moved) (path n k (step k m .model)) (path (n + more) k (step k m .model)) (begins-points n more k (step k m .model)))
+begins-points (suc n) more k m =
+    rw (suc-add n more)
+    (go (step k m .moved) (path n k (step k m .model)) (path (n + more) k (step k m .model)) (begins-points n more k (step k m .model)))
   where
     p : Vec3
     p = step k m .model .state .«position_m»
 
-    go : (b : Bool) (short long : Path) → short .points ≡ take n (long .points) → Next b p (step k m .reason) short .points ≡ take (suc n) (Next b p (step k m .reason) long .points)
+    go : (b : Bool) (short long : Path) → short .points ≡ take n (long .points)
+        → Next b p (step k m .reason) short .points ≡ take (suc n) (Next b p (step k m .reason) long .points)
     go true short long e = ap (λ (ps : List Vec3). p ∷ ps) e
     go false short long e = refl
 
 begins-stopped : (n more : ℕ) (k : WaypointCall) (m : Model) → path n k m .whole ≡ false → path (n + more) k m ≡ path n k m
 unfolding path
 begins-stopped zero more k m h = never′ h
-begins-stopped (suc n) more k m h = rw (suc-add n more) (go (step k m .moved) (path n k (step k m .model)) (path (n + more) k (step k m .model)) (begins-stopped n more k (step k m .model)) h)
+begins-stopped (suc n) more k m h =
+    rw (suc-add n more) (go (step k m .moved) (path n k (step k m .model)) (path (n + more) k (step k m .model))
+    (begins-stopped n more k (step k m .model)) h)
   where
     p : Vec3
     p = step k m .model .state .«position_m»
 
-    go : (b : Bool) (short long : Path) → (short .whole ≡ false → long ≡ short) → Next b p (step k m .reason) short .whole ≡ false → Next b p (step k m .reason) long ≡ Next b p (step k m .reason) short
+    go : (b : Bool) (short long : Path) → (short .whole ≡ false → long ≡ short)
+        → Next b p (step k m .reason) short .whole ≡ false → Next b p (step k m .reason) long ≡ Next b p (step k m .reason) short
     go true short long ih h = ap (onward p) (ih h)
     go false short long ih h = refl
 
@@ -88,7 +94,9 @@ begins-numbers : (n more : ℕ) (k : WaypointCall) (m : Model) (out : List Float
     take (3 * n) (put (path (n + more) k m .points) out) ≡ take (3 * n) (put (path n k m .points) out)
 unfolding path
 begins-numbers zero more k m out = refl
-begins-numbers (suc n) more k m out = rw (suc-add n more) (go (step k m .moved) (path n k (step k m .model)) (path (n + more) k (step k m .model)) (begins-numbers n more k (step k m .model) (drop 3 out)))
+begins-numbers (suc n) more k m out =
+    rw (suc-add n more) (go (step k m .moved) (path n k (step k m .model)) (path (n + more) k (step k m .model))
+    (begins-numbers n more k (step k m .model) (drop 3 out)))
   where
     p : Vec3
     p = step k m .model .state .«position_m»
@@ -111,7 +119,8 @@ count-whole (suc n) k m h = go (step k m .moved) (path n k (step k m .model)) (c
     p : Vec3
     p = step k m .model .state .«position_m»
 
-    go : (b : Bool) (rest : Path) → (rest .whole ≡ true → length (rest .points) ≡ n) → Next b p (step k m .reason) rest .whole ≡ true → length (Next b p (step k m .reason) rest .points) ≡ suc n
+    go : (b : Bool) (rest : Path) → (rest .whole ≡ true → length (rest .points) ≡ n)
+        → Next b p (step k m .reason) rest .whole ≡ true → length (Next b p (step k m .reason) rest .points) ≡ suc n
     go true rest ih h = ap suc (ih h)
     go false rest ih h = never h
 
@@ -123,7 +132,8 @@ count-stopped (suc n) k m h = go (step k m .moved) (path n k (step k m .model)) 
     p : Vec3
     p = step k m .model .state .«position_m»
 
-    go : (b : Bool) (rest : Path) → (rest .whole ≡ false → length (rest .points) + 1 ≤ n) → Next b p (step k m .reason) rest .whole ≡ false → length (Next b p (step k m .reason) rest .points) + 1 ≤ suc n
+    go : (b : Bool) (rest : Path) → (rest .whole ≡ false → length (rest .points) + 1 ≤ n)
+        → Next b p (step k m .reason) rest .whole ≡ false → length (Next b p (step k m .reason) rest .points) + 1 ≤ suc n
     go true rest ih h = let e = ih h in omega arith
     go false rest ih h = omega arith
 

@@ -33,7 +33,35 @@ use Rattle.records.specs.declared.call.Call.{Call}
 use Rattle.records.specs.declared.call.Call.the-variants.{Prime, Attitude, Rate, Waypoint, AbsoluteAttitude, Land, AbsoluteRate}
 use Rattle.records.specs.declared.call_writer.Parts.{Parts}
 use Rattle.records.specs.declared.call.ReadCall.the-variants.{Read, Refused}
-use Rattle.records.specs.Call.{callFields, complete, unknown, byteAt, regimeOf, optionOf, legOf, attitudeAt, rateAt, absoluteAttitudeAt, absoluteRateAt, waypointAt, stateAt, callAt, readCall, regimeByte, numberOr0, hasNumber, legNorth, legEast, hasLeg, commandParts, waypointParts, partsOf, valuesOf, mapOfParts, callRecord}
+use Rattle.records.specs.Call.{
+  callFields,
+  complete,
+  unknown,
+  byteAt,
+  regimeOf,
+  optionOf,
+  legOf,
+  attitudeAt,
+  rateAt,
+  absoluteAttitudeAt,
+  absoluteRateAt,
+  waypointAt,
+  stateAt,
+  callAt,
+  readCall,
+  regimeByte,
+  numberOr0,
+  hasNumber,
+  legNorth,
+  legEast,
+  hasLeg,
+  commandParts,
+  waypointParts,
+  partsOf,
+  valuesOf,
+  mapOfParts,
+  callRecord,
+}
 use Rattle.records.specs.Call as spec
 use Rattle.record_laws.specs.Laws.{CallF32, CallLaws, CallLongest}
 use Rattle.records.proofs.CallLaw.{fields-long, fields-are, size-is, Numbers, parts-long, regime-le, values-byte, byte-missing}
@@ -306,7 +334,8 @@ unfolding legOf
 legs-fit m x y h k = go (stands m)
   where
     go : (b : Bool)
-        → T (fits binary32 (legNorth (cond b (leg.Some (record { x = x; y = y })) leg.None))) × T (fits binary32 (legEast (cond b (leg.Some (record { x = x; y = y })) leg.None)))
+        → T (fits binary32 (legNorth (cond b (leg.Some (record { x = x; y = y })) leg.None)))
+        × T (fits binary32 (legEast (cond b (leg.Some (record { x = x; y = y })) leg.None)))
     go true = (h, k)
     go false = (zero-fits, zero-fits)
 
@@ -445,7 +474,8 @@ unfolding optionOf
 option-left m x e = rw e zero-out
 
 legs-left : (m : ℕ) (x y : Float) → stands m ≡ false
-    → (isWritten (hasLeg (legOf m x y)) (toBits binary32 (legNorth (legOf m x y))) 0 ≡ false) × (isWritten (hasLeg (legOf m x y)) (toBits binary32 (legEast (legOf m x y))) 0 ≡ false)
+    → (isWritten (hasLeg (legOf m x y)) (toBits binary32 (legNorth (legOf m x y))) 0 ≡ false)
+    × (isWritten (hasLeg (legOf m x y)) (toBits binary32 (legEast (legOf m x y))) 0 ≡ false)
 unfolding legOf
 legs-left m x y e = (rw e zero-out, rw e zero-out)
 
@@ -498,8 +528,13 @@ module _ (m : ℕ) (s : List ℕ) (v : List Float) (ev : v ≡ floatsOf (valuesA
     at-bit : (k n : ℕ) → 2 + k ≡ n → stands (halved k (m / 2 / 2)) ≡ stands (m / 2 ^ n)
     at-bit k n e = rw (halved-is k (m / 2 / 2), third-on m k, e)
 
-    leg-left : (stands (halved 7 (m / 2 / 2)) ≡ false → isWritten (hasLeg (legOf (m / 2 ^ 9) (spec.at v 9) (spec.at v 10))) (toBits binary32 (legNorth (legOf (m / 2 ^ 9) (spec.at v 9) (spec.at v 10)))) 0 ≡ false)
-        × (stands (halved 8 (m / 2 / 2)) ≡ false → isWritten (hasLeg (legOf (m / 2 ^ 9) (spec.at v 9) (spec.at v 10))) (toBits binary32 (legEast (legOf (m / 2 ^ 9) (spec.at v 9) (spec.at v 10)))) 0 ≡ false)
+    leg-left :
+        (stands (halved 7 (m / 2 / 2)) ≡ false
+        → isWritten (hasLeg (legOf (m / 2 ^ 9) (spec.at v 9) (spec.at v 10)))
+        (toBits binary32 (legNorth (legOf (m / 2 ^ 9) (spec.at v 9) (spec.at v 10)))) 0 ≡ false)
+        × (stands (halved 8 (m / 2 / 2)) ≡ false
+        → isWritten (hasLeg (legOf (m / 2 ^ 9) (spec.at v 9) (spec.at v 10)))
+        (toBits binary32 (legEast (legOf (m / 2 ^ 9) (spec.at v 9) (spec.at v 10)))) 0 ≡ false)
     leg-left = (
       λ e. legs-left (m / 2 ^ 9) (spec.at v 9) (spec.at v 10) (sym (at-bit 7 9 refl) ∙ e) .0,
       λ e. legs-left (m / 2 ^ 9) (spec.at v 9) (spec.at v 10) (ap (λ (x : ℕ). eqb x 1) q ∙ sym (at-bit 8 10 refl) ∙ e) .1,
@@ -514,7 +549,9 @@ module _ (m : ℕ) (s : List ℕ) (v : List Float) (ev : v ≡ floatsOf (valuesA
     cap-left e = option-left (m / 2 ^ 21) (spec.at v 21) (sym (at-bit 19 21 refl) ∙ e)
 
     waypoint-within : (g : ℕ)
-        → let p = waypointParts g (spec.at v 2) (waypointAt m v) (stateAt m v) (optionOf (m / 2 ^ 21) (spec.at v 21)) in Within Numbers (p .keeps) (bitsOf (p .numbers)) (m / 2 / 2)
+        → let p =
+        waypointParts g (spec.at v 2) (waypointAt m v) (stateAt m v) (optionOf (m / 2 ^ 21) (spec.at v 21)) in Within Numbers
+        (p .keeps) (bitsOf (p .numbers)) (m / 2 / 2)
     unfolding Within numberFields bitsOf waypointParts waypointAt stateAt
     waypoint-within g = (
       used 0 (lit< tt),

@@ -26,7 +26,24 @@ use Rattle.records.specs.declared.call.Call.the-variants.{Prime, Attitud
 use Rattle.records.specs.declared.call_writer.Parts.{Parts}
 use Rattle.records.specs.declared.call_writer.Record.{Record}
 use Rattle.records.specs.declared.call.ReadCall.the-variants.{Read, Refused}
-use Rattle.records.specs.Call.{zero, callFields, complete, unknown, byteAt, regimeOf, callAt, readCall, regimeByte, commandParts, waypointParts, partsOf, valuesOf, mapOfParts, byteOf, callRecord}
+use Rattle.records.specs.Call.{
+  zero,
+  callFields,
+  complete,
+  unknown,
+  byteAt,
+  regimeOf,
+  callAt,
+  readCall,
+  regimeByte,
+  commandParts,
+  waypointParts,
+  partsOf,
+  valuesOf,
+  mapOfParts,
+  byteOf,
+  callRecord,
+}
 
 pub fields-long : length callFields ≡ 22
 unfolding callFields numberFields
@@ -298,11 +315,15 @@ module _ (p₀ p₁ p₂ p₃ p₄ : List ℕ) (m k g second third : ℕ) (v : L
       let room : 4 + m % 2 + m / 2 % 2 ≤ length p₀ = omega (arith, h, size-is m) in
       let l₁ : length (bytesOf 4 m) ≡ 4 = bytes-long 4 m in
       let l₂ : length (bytesOf 4 m ++ byteOf m k) ≡ 4 + m % 2 = length-append (bytesOf 4 m) (byteOf m k) ∙ rw (l₁, byte-long m k) in
-      let l₃ : length ((bytesOf 4 m ++ byteOf m k) ++ byteOf (m / 2) g) ≡ 4 + m % 2 + m / 2 % 2 = length-append (bytesOf 4 m ++ byteOf m k) (byteOf (m / 2) g) ∙ rw (l₂, byte-long (m / 2) g) in
+      let l₃ : length ((bytesOf 4 m ++ byteOf m k) ++ byteOf (m / 2) g) ≡ 4 + m % 2 + m / 2 % 2 =
+      length-append (bytesOf 4 m ++ byteOf m k) (byteOf (m / 2) g) ∙ rw (l₂, byte-long (m / 2) g) in
       let q₁ : p₁ ≡ putAt p₀ 0 (bytesOf 4 m) = e₁ ∙ rw l₁ in
       let q₂ : p₂ ≡ putAt p₀ 0 (bytesOf 4 m ++ byteOf m k) = put-next p₀ 0 4 (bytesOf 4 m) (byteOf m k) q₁ (omega (arith, l₁)) (omega arith) e₂ in
-      let q₃ : p₃ ≡ putAt p₀ 0 ((bytesOf 4 m ++ byteOf m k) ++ byteOf (m / 2) g) = put-next p₀ 0 second (bytesOf 4 m ++ byteOf m k) (byteOf (m / 2) g) q₂ (omega (arith, l₂, es)) (omega (arith, es)) e₃ in
-      let q₄ : p₄ ≡ putAt p₀ 0 (((bytesOf 4 m ++ byteOf m k) ++ byteOf (m / 2) g) ++ bodyOf (numberFields v) (m / 4) v) = put-next p₀ 0 third ((bytesOf 4 m ++ byteOf m k) ++ byteOf (m / 2) g) (bodyOf (numberFields v) (m / 4) v) q₃ (omega (arith, l₃, es, et)) (omega (arith, es, et)) e₄ in
+      let q₃ : p₃ ≡ putAt p₀ 0 ((bytesOf 4 m ++ byteOf m k) ++ byteOf (m / 2) g) =
+      put-next p₀ 0 second (bytesOf 4 m ++ byteOf m k) (byteOf (m / 2) g) q₂ (omega (arith, l₂, es)) (omega (arith, es)) e₃ in
+      let q₄ : p₄ ≡ putAt p₀ 0 (((bytesOf 4 m ++ byteOf m k) ++ byteOf (m / 2) g) ++ bodyOf (numberFields v) (m / 4) v) =
+      put-next p₀ 0 third ((bytesOf 4 m ++ byteOf m k) ++ byteOf (m / 2) g) (bodyOf (numberFields v) (m / 4) v) q₃
+      (omega (arith, l₃, es, et)) (omega (arith, es, et)) e₄ in
       let order : ((bytesOf 4 m ++ byteOf m k) ++ byteOf (m / 2) g) ++ bodyOf (numberFields v) (m / 4) v ≡ bytesOf 4 m ++ bodyOf callFields m (k ∷ g ∷ v) =
       append-assoc (bytesOf 4 m ++ byteOf m k) (byteOf (m / 2) g) _
       ∙ append-assoc (bytesOf 4 m) (byteOf m k) _

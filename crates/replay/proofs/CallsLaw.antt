@@ -33,7 +33,20 @@ use Rattle.lines.specs.Line.{text}
 use Rattle.lines.proofs.TextLaw.{text-short}
 use Rattle.replay.specs.declared.turn.CallLine.{CallLine}
 use Rattle.replay.specs.Recording.{Calls, noCalls, onRead, readCalls, stops, recording}
-use Rattle.replay.specs.Text.{refusedLine, stoppedLine, primeLine, setpointLine, waypointLine, answerLine, replyLine, callLines, runLines, recordingLines, linesText, recordingText}
+use Rattle.replay.specs.Text.{
+  refusedLine,
+  stoppedLine,
+  primeLine,
+  setpointLine,
+  waypointLine,
+  answerLine,
+  replyLine,
+  callLines,
+  runLines,
+  recordingLines,
+  linesText,
+  recordingText,
+}
 use Rattle.replay.specs.code.Performed.{callLine}
 use Rattle.replay.specs.code.Pass.{Prints, callsText}
 use Rattle.replay.proofs.PrintLaw.{Printed, printed-none, printed-room, printed-more, printed-all, printed-last, last-room}
@@ -111,7 +124,8 @@ rest-short zero n g s at = go (leb (length s) at) refl
     go false e = rw (rest-nine n g s at (leb-false (length s) at e)) (line-short _ (stopped-count n 9) 0)
 rest-short (suc k) n g s at = go (leb (length s) at) refl (readCall s at) refl (λ (m : ℕ) (f : PlaneGuidance) (next : ℕ). rest-short k m f s next)
   where
-    go : (b : Bool) → leb (length s) at ≡ b → (r : ReadCall) → readCall s at ≡ r → ((m : ℕ) (f : PlaneGuidance) (next : ℕ) → length (rest k m f s next) ≤ 80 + 80 * k)
+    go : (b : Bool) → leb (length s) at ≡ b → (r : ReadCall) → readCall s at ≡ r
+        → ((m : ℕ) (f : PlaneGuidance) (next : ℕ) → length (rest k m f s next) ≤ 80 + 80 * k)
         → length (rest (suc k) n g s at) ≤ 80 + 80 * suc k
     go true e r q ih = rw (rest-over n g s at (suc k) (leb-true (length s) at e)) (omega arith)
     go false e (Refused r) q ih = rw (rest-bad n g s at k r (leb-false (length s) at e) q) (line-short _ (stopped-count n r) (80 * suc k))
@@ -127,11 +141,13 @@ pub record Calling (s : List ℕ) (from : ℕ) (first : PlaneGuidance) (w : Bool
   pub small : to + 80 ≤ 80 * n
   pub printed : Printed w (callsText s from first) out₀ out to (rest (4097 - n) n g s at)
 
-pub call-starts : (s : List ℕ) (from : ℕ) (first : PlaneGuidance) (w : Bool) (out : List ℕ) → (w ≡ true → length (callsText s from first) ≤ length out) → Calling s from first w out out first from 0 1
+pub call-starts : (s : List ℕ) (from : ℕ) (first : PlaneGuidance) (w : Bool) (out : List ℕ)
+    → (w ≡ true → length (callsText s from first) ≤ length out) → Calling s from first w out out first from 0 1
 unfolding callsText
 call-starts s from first w out h = record { high = omega arith; small = omega arith; printed = printed-none w _ out h }
 
-module _ {s : List ℕ} {from : ℕ} {first : PlaneGuidance} {w : Bool} {out₀ out : List ℕ} {g : PlaneGuidance} {at to n : ℕ} (f : Calling s from first w out₀ out g at to n) where
+module _ {s : List ℕ} {from : ℕ} {first : PlaneGuidance} {w : Bool} {out₀ out : List ℕ} {g : PlaneGuidance} {at to n : ℕ}
+    (f : Calling s from first w out₀ out g at to n) where
   abbrev Left : List ℕ → Type 0
   Left left = Printed w (callsText s from first) out₀ out to left
 
@@ -167,10 +183,12 @@ module _ {s : List ℕ} {from : ℕ} {first : PlaneGuidance} {w : Bool} {out₀ 
       }
 
   -- what `print` asks for a last line, and what it leaves
-  pub stop-asks : (r : ℕ) (l : Line) → l ≡ stoppedLine n r → Left (text (stoppedLine n r)) → (l .count ≤ 4) × (to ≤ 327680) × (w ≡ true → to + length (text l) ≤ length out)
+  pub stop-asks : (r : ℕ) (l : Line) → l ≡ stoppedLine n r → Left (text (stoppedLine n r))
+      → (l .count ≤ 4) × (to ≤ 327680) × (w ≡ true → to + length (text l) ≤ length out)
   stop-asks r l e left = (rw e (stopped-count n r), omega (arith, f .small, f .high), λ (q : w ≡ true). rw e (last-room (text (stoppedLine n r)) left q))
 
-  pub stop-ends : (r : ℕ) (l : Line) → l ≡ stoppedLine n r → Left (text (stoppedLine n r)) → (after : List ℕ) (p : ℕ) → Prints w to (text l) out after p → Printed w (callsText s from first) out₀ after p []
+  pub stop-ends : (r : ℕ) (l : Line) → l ≡ stoppedLine n r → Left (text (stoppedLine n r)) → (after : List ℕ) (p : ℕ)
+      → Prints w to (text l) out after p → Printed w (callsText s from first) out₀ after p []
   stop-ends r l e left after p prints = printed-last (text (stoppedLine n r)) after p left (rw e at prints)
 
   -- and for a call's line

@@ -75,7 +75,9 @@ module _ (n : ℕ) (s : List ℕ) where
 
 recording-cut : (s : List ℕ) → recording (take decisive s) ≡ recording s
 unfolding recording
-recording-cut s = rw (config-same 137 (take decisive s) s (take-take 137 decisive s (omega arith)) (omega (arith, config-most (numberAt 5 (take decisive s))))) (go (readConfig s 0) refl)
+recording-cut s =
+    rw (config-same 137 (take decisive s) s (take-take 137 decisive s (omega arith))
+    (omega (arith, config-most (numberAt 5 (take decisive s))))) (go (readConfig s 0) refl)
   where
     go : (r : ReadConfig) → readConfig s 0 ≡ r → onConfig (take decisive s) r ≡ onConfig s r
     go (config.Refused r) e = refl

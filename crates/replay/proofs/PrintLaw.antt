@@ -32,7 +32,8 @@ print-measures false to bs out before after r e q = record { bytes = refl; place
 print-measures true to bs out before after r e q = let z : _≡_ {A = ℕ} 0 1 = cc in absurd (omega arith)
 
 module _ (to : ℕ) (bs out after : List ℕ) (r : ℕ) where
-  print-more : (w : Bool) (more : List ℕ) → (w ≡ true → to + length bs ≤ length out) → Prints w to bs out after r → cond w (putAt after r more) after ≡ cond w (putAt out to (bs ++ more)) out
+  print-more : (w : Bool) (more : List ℕ) → (w ≡ true → to + length bs ≤ length out) → Prints w to bs out after r
+      → cond w (putAt after r more) after ≡ cond w (putAt out to (bs ++ more)) out
   print-more true more h p = rw (p .bytes, p .place) (put-then out to bs more (h refl))
   print-more false more h p = p .bytes
 

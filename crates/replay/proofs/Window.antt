@@ -39,7 +39,8 @@ call-at s at h =
     let size = 4 + sizeOf callFields map in
     let values = valuesAt callFields map (drop 4 (drop at s)) in
     rw (room-at s at 4 h, room-at s at size h, ← drop-drop 4 at s)
-    (go (hasBytes (drop at s) 0 4) (complete map) (hasBytes (drop at s) 0 size) (unknown (getD values 0 0) (getD values 1 0)) (callAt (getD values 0 0) (regimeOf (getD values 1 0)) map (floatsOf (drop 2 values))) size)
+    (go (hasBytes (drop at s) 0 4) (complete map) (hasBytes (drop at s) 0 size) (unknown (getD values 0 0) (getD values 1 0))
+    (callAt (getD values 0 0) (regimeOf (getD values 1 0)) map (floatsOf (drop 2 values))) size)
   where
     go : (a b c d : Bool) (k : Call) (n : ℕ)
         → cond (not a) (Refused 5) (cond (not b) (Refused 6) (cond (not c) (Refused 5) (cond d (Refused 7) (Read k (at + n)))))
@@ -61,7 +62,8 @@ pub call-most : (m : ℕ) → sizeOf callFields m ≤ 82
 call-most m = rw (call-law.size-is m) (omega (arith, ones-le 20 (m / 4)))
 
 -- what was read lies in the string, and is at most 86 bytes
-pub call-within : (s : List ℕ) (at : ℕ) (k : Call) (next : ℕ) → readCall s at ≡ Read k next → (next ≡ at + (4 + sizeOf callFields (numberAt 4 (drop at s)))) × (next ≤ length s)
+pub call-within : (s : List ℕ) (at : ℕ) (k : Call) (next : ℕ) → readCall s at ≡ Read k next
+    → (next ≡ at + (4 + sizeOf callFields (numberAt 4 (drop at s)))) × (next ≤ length s)
 unfolding readCall
 call-within s at k next =
     let map = numberAt 4 (drop at s) in
@@ -70,7 +72,9 @@ call-within s at k next =
     (callAt (getD values 0 0) (regimeOf (getD values 1 0)) map (floatsOf (drop 2 values)))
   where
     go : (a b c d : Bool) → leb (at + (4 + sizeOf callFields (numberAt 4 (drop at s)))) (length s) ≡ c → (v : Call)
-        → cond (not a) (Refused 5) (cond (not b) (Refused 6) (cond (not c) (Refused 5) (cond d (Refused 7) (Read v (at + (4 + sizeOf callFields (numberAt 4 (drop at s)))))))) ≡ Read k next
+        → cond (not a) (Refused 5) (cond (not b) (Refused 6)
+        (cond (not c) (Refused 5) (cond d (Refused 7) (Read v (at + (4 + sizeOf callFields (numberAt 4 (drop at s))))))))
+        ≡ Read k next
         → (next ≡ at + (4 + sizeOf callFields (numberAt 4 (drop at s)))) × (next ≤ length s)
     go false b c d e v q = let z : _≡_ {A = ℕ} 0 1 = cc in absurd (omega arith)
     go true false c d e v q = let z : _≡_ {A = ℕ} 0 1 = cc in absurd (omega arith)
@@ -91,14 +95,16 @@ config-same n s t e h =
 pub config-most : (m : ℕ) → sizeOf configFields m ≤ 132
 config-most m = rw (config-law.size-is m) (omega (arith, ones-le 33 m))
 
-pub config-within : (s : List ℕ) (c : PlaneGuidanceConfig) (next : ℕ) → readConfig s 0 ≡ config.Read c next → (next ≡ 5 + sizeOf configFields (numberAt 5 s)) × (next ≤ length s)
+pub config-within : (s : List ℕ) (c : PlaneGuidanceConfig) (next : ℕ) → readConfig s 0 ≡ config.Read c next
+    → (next ≡ 5 + sizeOf configFields (numberAt 5 s)) × (next ≤ length s)
 unfolding readConfig
 config-within s c next =
     let map = numberAt 5 s in
     go (hasBytes s 0 5) (named configFields map) (leb (0 + (5 + sizeOf configFields map)) (length s)) refl _
   where
     go : (a b d : Bool) → leb (0 + (5 + sizeOf configFields (numberAt 5 s))) (length s) ≡ d → (v : PlaneGuidanceConfig)
-        → cond (not a) (config.Refused 5) (cond (not b) (config.Refused 6) (cond (not d) (config.Refused 5) (config.Read v (0 + (5 + sizeOf configFields (numberAt 5 s)))))) ≡ config.Read c next
+        → cond (not a) (config.Refused 5) (cond (not b) (config.Refused 6)
+        (cond (not d) (config.Refused 5) (config.Read v (0 + (5 + sizeOf configFields (numberAt 5 s)))))) ≡ config.Read c next
         → (next ≡ 5 + sizeOf configFields (numberAt 5 s)) × (next ≤ length s)
     go false b d e v q = let z : _≡_ {A = ℕ} 0 1 = cc in absurd (omega arith)
     go true false d e v q = let z : _≡_ {A = ℕ} 0 1 = cc in absurd (omega arith)

@@ -13,7 +13,25 @@ use Rattle.fields.specs.Bytes.{numberAt, hasBytes, putAt}
 use Rattle.fields.specs.Writing.{answerOf, bufferOf}
 use Rattle.fields.specs.declared.Written.the-variants as written
 use Rattle.route_records.specs.declared.Loaded.the-variants as loaded
-use Rattle.route_records.specs.Record.{Route, numberCount, mapRefusal, oneMap, readMaps, readPoints, numbersAt, allFinite, refused, read, readRoute, numberBytes, mapsBytes, routeRecord, routeOf, writeAnswer, writeBuffer}
+use Rattle.route_records.specs.Record.{
+  Route,
+  numberCount,
+  mapRefusal,
+  oneMap,
+  readMaps,
+  readPoints,
+  numbersAt,
+  allFinite,
+  refused,
+  read,
+  readRoute,
+  numberBytes,
+  mapsBytes,
+  routeRecord,
+  routeOf,
+  writeAnswer,
+  writeBuffer,
+}
 use Rattle.route_records.specs.Older.{olderMapRefusal, olderReadRoute, olderRouteRecord}
 use Rattle.route_records.specs.Laws.{AreBytes, StoredKept, OlderDisplay}
 use Rattle.route_records.proofs.MapsLaw.{named, one-map-bytes, two-maps-long, room, first-is}

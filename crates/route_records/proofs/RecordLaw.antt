@@ -17,7 +17,28 @@ use Rattle.fields.proofs.FieldLaw.{rest-is}
 use Rattle.fields.proofs.WriteLaw as write
 use Rattle.route_records.specs.declared.Loaded.{Loaded}
 use Rattle.route_records.specs.declared.Loaded.the-variants as loaded
-use Rattle.route_records.specs.Record.{Route, numberCount, mapRefusal, numbersAt, allFinite, RouteRead, refused, read, readMaps, readPoints, readRoute, answerTo, bufferTo, loadAnswer, loadBuffer, numberBytes, mapsBytes, routeRecord, writeAnswer, writeBuffer}
+use Rattle.route_records.specs.Record.{
+  Route,
+  numberCount,
+  mapRefusal,
+  numbersAt,
+  allFinite,
+  RouteRead,
+  refused,
+  read,
+  readMaps,
+  readPoints,
+  readRoute,
+  answerTo,
+  bufferTo,
+  loadAnswer,
+  loadBuffer,
+  numberBytes,
+  mapsBytes,
+  routeRecord,
+  writeAnswer,
+  writeBuffer,
+}
 use Rattle.route_records.proofs.NumbersLaw.{numbers-long, bytes-size}
 
 -- n numbers in hand, and their bytes in what is left of a slice

@@ -22,7 +22,24 @@ use Rattle.fields.proofs.FieldLaw.{ones-le, ones-below}
 use Rattle.fields.proofs.LawsProof.{laws}
 use Rattle.route_records.specs.declared.Loaded.{Loaded}
 use Rattle.route_records.specs.declared.Loaded.the-variants as loaded
-use Rattle.route_records.specs.Record.{Route, numberCount, mapRefusal, joined, oneMap, twoMaps, readMaps, readPoints, numbersAt, allFinite, refused, read, readRoute, numberBytes, mapsBytes, routeRecord}
+use Rattle.route_records.specs.Record.{
+  Route,
+  numberCount,
+  mapRefusal,
+  joined,
+  oneMap,
+  twoMaps,
+  readMaps,
+  readPoints,
+  numbersAt,
+  allFinite,
+  refused,
+  read,
+  readRoute,
+  numberBytes,
+  mapsBytes,
+  routeRecord,
+}
 use Rattle.route_records.specs.Laws.{IsRoute, RouteLaws, AreBytes, RouteKept}
 use Rattle.route_records.proofs.NumbersLaw.{numbers-long}
 use Rattle.route_records.proofs.MapsLaw.{map-is, either, one-map-bytes, two-map-bytes, one-map-long, two-maps-long, room, alone-is, first-is, second-is}
@@ -186,7 +203,8 @@ module _ (s : List ℕ) (at m from : ℕ) where
         bytes = λ (h : AreBytes s). rw (one-map-long m small, one-map-bytes m small, ← em) (bytes-back 4 (drop at s) (bytes-dropped at s h) (simp length-drop (omega arith)));
       }
 
-  two-read : at + 8 ≤ length s → 2147483648 ≤ First → Second < 2147483648 → (Second ≡ 0 → ⊥) → joined First Second ≡ m → at + 8 ≡ from → MapsRead s at m from
+  two-read : at + 8 ≤ length s → 2147483648 ≤ First → Second < 2147483648 → (Second ≡ 0 → ⊥) → joined First Second ≡ m
+      → at + 8 ≡ from → MapsRead s at m from
   two-read l high low some em ep =
       let large : 2147483648 ≤ m = omega arith in
       record {

@@ -9,7 +9,21 @@ use Rattle.fields.specs.Numbers.{AreF32}
 use Rattle.fields.specs.Laws.{Laws}
 use Rattle.fields.specs.declared.Written.the-variants as written
 use Rattle.route_records.specs.declared.Loaded.the-variants as loaded
-use Rattle.route_records.specs.Record.{Route, numberCount, mapRefusal, joined, allFinite, refused, readRoute, read, answerTo, bufferTo, routeRecord, writeAnswer, writeBuffer}
+use Rattle.route_records.specs.Record.{
+  Route,
+  numberCount,
+  mapRefusal,
+  joined,
+  allFinite,
+  refused,
+  readRoute,
+  read,
+  answerTo,
+  bufferTo,
+  routeRecord,
+  writeAnswer,
+  writeBuffer,
+}
 use Rattle.route_records.specs.Older.{olderReadRoute, olderRouteRecord}
 
 -- a route as loading makes it: a map that is not refused, four numbers for each standing point, each finite

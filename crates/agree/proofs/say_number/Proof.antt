@@ -15,7 +15,13 @@ array-share-prefix-text : tie.Need-array-share-prefix-text
 array-share-prefix-text c = omega (arith, c .before .put-decimal .ensures .size, c .before .put-decimal .kept .0, decimal-short 10 (c .before .before .before .args .n))
 
 slice-aggregate-say : tie.Need-slice-aggregate-say
-slice-aggregate-say c = part _ _ (omega (arith, c .before .before .put-decimal .ensures .size, c .before .before .put-decimal .kept .0, decimal-short 10 (c .before .before .before .before .args .n)))
+slice-aggregate-say c =
+    part _ _ (omega (
+      arith,
+      c .before .before .put-decimal .ensures .size,
+      c .before .before .put-decimal .kept .0,
+      decimal-short 10 (c .before .before .before .before .args .n),
+    ))
 
 say-requires : tie.Need-say-requires
 say-requires c κs = search needs

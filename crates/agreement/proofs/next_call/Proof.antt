@@ -26,7 +26,10 @@ enum-known-read : tie.Need-enum-known-read Inv-loop μ-loop
 enum-known-read c = search needs
 
 returns-2 : tie.Need-returns-2 Inv-loop μ-loop
-returns-2 c = seek-bad (c .before .before .before .before .before .before .loop .inv) _ (c .before .before .before .before .before .loop-test .taken) (c .before .before .before .before .if1 .left) (sym (c .before .before .before .read-call .ensures) ∙ c .before .read .given .1)
+returns-2 c =
+    seek-bad (c .before .before .before .before .before .before .loop .inv) _
+    (c .before .before .before .before .before .loop-test .taken) (c .before .before .before .before .if1 .left)
+    (sym (c .before .before .before .read-call .ensures) ∙ c .before .read .given .1)
 
 enum-known-read-2 : tie.Need-enum-known-read-2 Inv-loop μ-loop
 enum-known-read-2 c = search needs
@@ -41,13 +44,27 @@ add-n : tie.Need-add-n Inv-loop μ-loop
 add-n c = omega arith
 
 returns-3 : tie.Need-returns-3 Inv-loop μ-loop
-returns-3 c = seek-found (c .before .before .before .before .before .before .before .before .before .before .before .loop .inv) _ _ (c .before .before .before .before .before .before .before .before .before .before .loop-test .taken) (c .before .before .before .before .before .before .before .before .before .if1 .left) (sym (c .before .before .before .before .before .before .before .before .read-call .ensures) ∙ c .before .before .before .before .before .before .read2 .given .1) (c .before .before .before .before .perform .result) (c .before .before .before .before .perform .ensures) (c .before .before .judge .result) (c .before .before .judge .ensures) (c .if2 .taken)
+returns-3 c =
+    seek-found (c .before .before .before .before .before .before .before .before .before .before .before .loop .inv) _ _
+    (c .before .before .before .before .before .before .before .before .before .before .loop-test .taken)
+    (c .before .before .before .before .before .before .before .before .before .if1 .left)
+    (sym (c .before .before .before .before .before .before .before .before .read-call .ensures)
+    ∙ c .before .before .before .before .before .before .read2 .given .1) (c .before .before .before .before .perform .result)
+    (c .before .before .before .before .perform .ensures) (c .before .before .judge .result) (c .before .before .judge .ensures)
+    (c .if2 .taken)
 
 loop-less : tie.Need-loop-less Inv-loop μ-loop
 loop-less c = omega arith
 
 loop-again : tie.Need-loop-again Inv-loop μ-loop
-loop-again c = seek-turn (c .before .before .before .before .before .before .before .before .before .before .before .loop .inv) _ _ (c .before .before .before .before .before .before .before .before .before .before .loop-test .taken) (c .before .before .before .before .before .before .before .before .before .if1 .left) (sym (c .before .before .before .before .before .before .before .before .read-call .ensures) ∙ c .before .before .before .before .before .before .read2 .given .1) (c .before .before .before .before .perform .result) (c .before .before .before .before .perform .ensures) (c .before .before .judge .result) (c .before .before .judge .ensures) (c .if2 .left)
+loop-again c =
+    seek-turn (c .before .before .before .before .before .before .before .before .before .before .before .loop .inv) _ _
+    (c .before .before .before .before .before .before .before .before .before .before .loop-test .taken)
+    (c .before .before .before .before .before .before .before .before .before .if1 .left)
+    (sym (c .before .before .before .before .before .before .before .before .read-call .ensures)
+    ∙ c .before .before .before .before .before .before .read2 .given .1) (c .before .before .before .before .perform .result)
+    (c .before .before .before .before .perform .ensures) (c .before .before .judge .result) (c .before .before .judge .ensures)
+    (c .if2 .left)
 
 returns-4 : tie.Need-returns-4 Inv-loop μ-loop
 returns-4 c = seek-most (c .before .loop .inv) (c .loop-test .left)

@@ -20,7 +20,9 @@ part-calls-requires : tie.Need-part-calls-requires
 part-calls-requires c κs = search needs
 
 returns-2 : tie.Need-returns-2
-returns-2 c = parted-same _ _ _ _ _ _ _ (c .before .before .before .before .same-config .ensures) (c .before .before .before .if1 .left) _ (rw (c .before .before .start .ensures, c .before .start2 .ensures) at (c .part-calls .ensures))
+returns-2 c =
+    parted-same _ _ _ _ _ _ _ (c .before .before .before .before .same-config .ensures) (c .before .before .before .if1 .left) _
+    (rw (c .before .before .start .ensures, c .before .start2 .ensures) at (c .part-calls .ensures))
 
 pub part-spec : {M : Type 1} → statement M
 part-spec =

@@ -32,10 +32,20 @@ slice-aggregate-same-bytes-2 : tie.Need-slice-aggregate-same-bytes-2
 slice-aggregate-same-bytes-2 c = search needs
 
 same-bytes-requires : tie.Need-same-bytes-requires
-same-bytes-requires c κs = keeps-fit _ _ _ _ (c .before .before .before .before .before .before .before .before .before .before .before .before .parts-of .ensures) (c .before .before .before .before .before .before .before .before .before .before .before .parts-of2 .ensures)
+same-bytes-requires c κs =
+    keeps-fit _ _ _ _
+    (c .before .before .before .before .before .before .before .before .before .before .before .before .parts-of .ensures)
+    (c .before .before .before .before .before .before .before .before .before .before .before .parts-of2 .ensures)
 
 returns : tie.Need-returns
-returns c = values-same _ _ _ _ (c .before .before .before .before .before .before .before .before .before .before .before .before .before .before .before .before .before .parts-of .ensures) (c .before .before .before .before .before .before .before .before .before .before .before .before .before .before .before .before .parts-of2 .ensures) _ _ (c .before .before .before .before .before .before .before .before .before .before .before .before .before .bits-of .ensures) (c .before .before .before .before .before .before .before .before .before .before .before .before .bits-of2 .ensures) _ _ (c .before .before .before .before .before .before .before .before .before .same-numbers .ensures) (c .before .before .before .before .same-bytes .ensures)
+returns c =
+    values-same _ _ _ _
+    (c .before .before .before .before .before .before .before .before .before .before .before .before .before .before .before .before .before .parts-of .ensures)
+    (c .before .before .before .before .before .before .before .before .before .before .before .before .before .before .before .before .parts-of2 .ensures)
+    _ _ (c .before .before .before .before .before .before .before .before .before .before .before .before .before .bits-of .ensures)
+    (c .before .before .before .before .before .before .before .before .before .before .before .before .bits-of2 .ensures) _ _
+    (c .before .before .before .before .before .before .before .before .before .same-numbers .ensures)
+    (c .before .before .before .before .same-bytes .ensures)
 
 pub same-call-spec : {M : Type 1} → statement M
 same-call-spec =

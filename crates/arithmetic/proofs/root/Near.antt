@@ -83,7 +83,8 @@ between B S C k l j r =
 four-parts : (j r : ℕ) → j + r ≡ 0x1000 → 4 * (j * r) ≤ 0x1000000
 four-parts j r e = omega (arith, two-squares j r, ap (λ (x : ℕ). x * x) e)
 
-line-above : (C j r G G′ Z Z′ F v : ℕ) → j + r ≡ 0x1000 → F ≡ 0x1000 * (r * G + j * G′) + C * (j * r) → 4 * G + C ≤ Z + 0x18000 → 4 * G′ + C ≤ Z′ + 0x18000 →
+line-above : (C j r G G′ Z Z′ F v : ℕ) → j + r ≡ 0x1000 → F ≡ 0x1000 * (r * G + j * G′) + C * (j * r)
+    → 4 * G + C ≤ Z + 0x18000 → 4 * G′ + C ≤ Z′ + 0x18000 →
     0x4000000000 * v ≤ F → 0x10000000 * v ≤ r * Z + j * Z′ + 0x18000000
 line-above C j r G G′ Z Z′ F v e f z z′ h =
     omega (arith, mul-le-mul-right C (four-parts j r e), mul-le-mul-right r z, mul-le-mul-right j z′, ap (λ (x : ℕ). x * C) e)

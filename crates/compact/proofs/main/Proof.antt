@@ -53,10 +53,14 @@ enum-known-answer-3 : tie.Need-enum-known-answer-3
 enum-known-answer-3 c = search needs
 
 array-share-prefix-bytes : tie.Need-array-share-prefix-bytes
-array-share-prefix-bytes c = fits _ _ _ _ _ (c .before .before .before .before .compact .ensures .0) (c .before .before .before .before .compact .ensures .1) (c .before .answer3 .given .1)
+array-share-prefix-bytes c =
+    fits _ _ _ _ _ (c .before .before .before .before .compact .ensures .0) (c .before .before .before .before .compact .ensures .1)
+    (c .before .answer3 .given .1)
 
 slice-aggregate-write-all-2 : tie.Need-slice-aggregate-write-all-2
-slice-aggregate-write-all-2 c = part _ _ (fits _ _ _ _ _ (c .before .before .before .before .before .compact .ensures .0) (c .before .before .before .before .before .compact .ensures .1) (c .before .before .answer3 .given .1))
+slice-aggregate-write-all-2 c =
+    part _ _ (fits _ _ _ _ _ (c .before .before .before .before .before .compact .ensures .0)
+    (c .before .before .before .before .before .compact .ensures .1) (c .before .before .answer3 .given .1))
 
 write-all-requires-2 : tie.Need-write-all-requires-2
 write-all-requires-2 c κs = search needs

@@ -12,10 +12,22 @@ put-line-requires : tie.Need-put-line-requires
 put-line-requires c κs = (c .before .pre, text-short (c .before .args .l) (c .before .pre))
 
 array-share-prefix-text : tie.Need-array-share-prefix-text
-array-share-prefix-text c = omega (arith, c .before .put-line .ensures .size, c .before .put-line .kept .0, text-short (c .before .before .before .args .l) (c .before .before .before .pre))
+array-share-prefix-text c =
+    omega (
+      arith,
+      c .before .put-line .ensures .size,
+      c .before .put-line .kept .0,
+      text-short (c .before .before .before .args .l) (c .before .before .before .pre),
+    )
 
 slice-aggregate-write-all : tie.Need-slice-aggregate-write-all
-slice-aggregate-write-all c = part _ _ (omega (arith, c .before .before .put-line .ensures .size, c .before .before .put-line .kept .0, text-short (c .before .before .before .before .args .l) (c .before .before .before .before .pre)))
+slice-aggregate-write-all c =
+    part _ _ (omega (
+      arith,
+      c .before .before .put-line .ensures .size,
+      c .before .before .put-line .kept .0,
+      text-short (c .before .before .before .before .args .l) (c .before .before .before .before .pre),
+    ))
 
 write-all-requires : tie.Need-write-all-requires
 write-all-requires c κs = search needs

@@ -23,10 +23,16 @@ enum-known-read : tie.Need-enum-known-read Inv-loop μ-loop
 enum-known-read c = search needs
 
 same-length : tie.Need-same-length Inv-loop μ-loop
-same-length c = absurd (close-refuses (c .before .before .before .before .before .before .loop .inv) _ (c .before .before .before .before .before .loop-test .taken) (sym (c .before .before .before .read-call .ensures) ∙ c .before .read .given .1))
+same-length c =
+    absurd (close-refuses (c .before .before .before .before .before .before .loop .inv) _
+    (c .before .before .before .before .before .loop-test .taken)
+    (sym (c .before .before .before .read-call .ensures) ∙ c .before .read .given .1))
 
 returns : tie.Need-returns Inv-loop μ-loop
-returns c = absurd (close-refuses (c .before .before .before .before .before .before .loop .inv) _ (c .before .before .before .before .before .loop-test .taken) (sym (c .before .before .before .read-call .ensures) ∙ c .before .read .given .1))
+returns c =
+    absurd (close-refuses (c .before .before .before .before .before .before .loop .inv) _
+    (c .before .before .before .before .before .loop-test .taken)
+    (sym (c .before .before .before .read-call .ensures) ∙ c .before .read .given .1))
 
 enum-known-read-2 : tie.Need-enum-known-read-2 Inv-loop μ-loop
 enum-known-read-2 c = search needs
@@ -38,13 +44,28 @@ judge-requires : tie.Need-judge-requires Inv-loop μ-loop
 judge-requires c κs = search needs
 
 keep-requires : tie.Need-keep-requires Inv-loop μ-loop
-keep-requires c κs = close-asks (c .before .before .before .before .before .before .before .before .before .before .loop .inv) _ _ (c .before .before .before .before .before .before .before .before .before .loop-test .taken) (sym (c .before .before .before .before .before .before .before .read-call .ensures) ∙ c .before .before .before .before .before .read2 .given .1)
+keep-requires c κs =
+    close-asks (c .before .before .before .before .before .before .before .before .before .before .loop .inv) _ _
+    (c .before .before .before .before .before .before .before .before .before .loop-test .taken)
+    (sym (c .before .before .before .before .before .before .before .read-call .ensures)
+    ∙ c .before .before .before .before .before .read2 .given .1)
 
 loop-less : tie.Need-loop-less Inv-loop μ-loop
-loop-less c = close-less (c .before .before .before .before .before .before .before .before .before .before .before .before .before .loop .inv) _ _ (c .before .before .before .before .before .before .before .before .before .before .before .before .loop-test .taken) (sym (c .before .before .before .before .before .before .before .before .before .before .read-call .ensures) ∙ c .before .before .before .before .before .before .before .before .read2 .given .1)
+loop-less c =
+    close-less (c .before .before .before .before .before .before .before .before .before .before .before .before .before .loop .inv) _ _
+    (c .before .before .before .before .before .before .before .before .before .before .before .before .loop-test .taken)
+    (sym (c .before .before .before .before .before .before .before .before .before .before .read-call .ensures)
+    ∙ c .before .before .before .before .before .before .before .before .read2 .given .1)
 
 loop-again : tie.Need-loop-again Inv-loop μ-loop
-loop-again c = close-turn (c .before .before .before .before .before .before .before .before .before .before .before .before .before .loop .inv) _ _ (c .before .before .before .before .before .before .before .before .before .before .before .before .loop-test .taken) (sym (c .before .before .before .before .before .before .before .before .before .before .read-call .ensures) ∙ c .before .before .before .before .before .before .before .before .read2 .given .1) (c .before .before .before .before .before .before .perform .result) (c .before .before .before .before .before .before .perform .ensures) (c .before .before .before .before .judge .result) (c .before .before .before .before .judge .ensures) _ _ (c .before .before .keep .ensures)
+loop-again c =
+    close-turn (c .before .before .before .before .before .before .before .before .before .before .before .before .before .loop .inv) _ _
+    (c .before .before .before .before .before .before .before .before .before .before .before .before .loop-test .taken)
+    (sym (c .before .before .before .before .before .before .before .before .before .before .read-call .ensures)
+    ∙ c .before .before .before .before .before .before .before .before .read2 .given .1)
+    (c .before .before .before .before .before .before .perform .result)
+    (c .before .before .before .before .before .before .perform .ensures) (c .before .before .before .before .judge .result)
+    (c .before .before .before .before .judge .ensures) _ _ (c .before .before .keep .ensures)
 
 same-length-2 : tie.Need-same-length-2 Inv-loop μ-loop
 same-length-2 c = c .before .loop .inv .long

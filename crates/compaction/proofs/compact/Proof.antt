@@ -37,7 +37,10 @@ same-length-3 : tie.Need-same-length-3
 same-length-3 c = search needs
 
 returns-3 : tie.Need-returns-3
-returns-3 c = finished (meant _ _ _ (c .before .before .before .before .before .before .before .before .before .before .before .decide .ensures) (c .before .before .before .before .before .before .before .before .before .d3 .given .1)) _ _ _ (c .before .before .before .before .before .before .close-gaps .ensures) (c .before .before .clear .ensures)
+returns-3 c =
+    finished (meant _ _ _ (c .before .before .before .before .before .before .before .before .before .before .before .decide .ensures)
+    (c .before .before .before .before .before .before .before .before .before .d3 .given .1)) _ _ _
+    (c .before .before .before .before .before .before .close-gaps .ensures) (c .before .before .clear .ensures)
 
 pub compact-spec : {M : Type 1} → statement M
 compact-spec =

@@ -33,11 +33,24 @@ returns c = rw (← c .before .before .before .read-config .ensures, c .before .
 
 returns-2 : tie.Need-returns-2
 unfolding decided
-returns-2 c = rw (← c .before .before .before .before .before .before .before .read-config .ensures, c .before .before .before .before .before .read2 .given .1, ← c .before .before .before .new .ensures .is, c .before .created .given .1)
+returns-2 c =
+    rw (
+      ← c .before .before .before .before .before .before .before .read-config .ensures,
+      c .before .before .before .before .before .read2 .given .1,
+      ← c .before .before .before .new .ensures .is,
+      c .before .created .given .1,
+    )
 
 returns-3 : tie.Need-returns-3
 unfolding decided
-returns-3 c = rw (← c .before .before .before .before .before .before .before .before .read-config .ensures, c .before .before .before .before .before .before .read2 .given .1, ← c .before .before .before .before .new .ensures .is, c .before .before .created2 .given .1, c .decide-calls .ensures)
+returns-3 c =
+    rw (
+      ← c .before .before .before .before .before .before .before .before .read-config .ensures,
+      c .before .before .before .before .before .before .read2 .given .1,
+      ← c .before .before .before .before .new .ensures .is,
+      c .before .before .created2 .given .1,
+      c .decide-calls .ensures,
+    )
 
 pub decide-spec : {M : Type 1} → statement M
 decide-spec =

@@ -25,7 +25,10 @@ same-length : tie.Need-same-length
 same-length c = search needs
 
 returns-3 : tie.Need-returns-3
-returns-3 c = moved-record _ _ _ _ _ _ (c .before .before .before .before .before .if1 .left) (c .before .before .before .before .before .before .before .pre .1) (c .before .before .before .before .before .before .before .pre .2) (c .before .before .shift .ensures)
+returns-3 c =
+    moved-record _ _ _ _ _ _ (c .before .before .before .before .before .if1 .left)
+    (c .before .before .before .before .before .before .before .pre .1)
+    (c .before .before .before .before .before .before .before .pre .2) (c .before .before .shift .ensures)
 
 pub keep-spec : {M : Type 1} → statement M
 keep-spec =

@@ -28,7 +28,10 @@ cast-t11 : tie.Need-cast-t11 Inv-loop μ-loop
 cast-t11 c = search needs
 
 returns-2 : tie.Need-returns-2 Inv-loop μ-loop
-returns-2 c = scan-bad (c .before .before .before .before .before .before .loop .inv) _ (c .before .before .before .before .before .loop-test .taken) (c .before .before .before .before .if1 .left) (sym (c .before .before .before .read-call .ensures) ∙ c .before .read .given .1)
+returns-2 c =
+    scan-bad (c .before .before .before .before .before .before .loop .inv) _
+    (c .before .before .before .before .before .loop-test .taken) (c .before .before .before .before .if1 .left)
+    (sym (c .before .before .before .read-call .ensures) ∙ c .before .read .given .1)
 
 enum-known-read-2 : tie.Need-enum-known-read-2 Inv-loop μ-loop
 enum-known-read-2 c = search needs
@@ -40,7 +43,10 @@ loop-less : tie.Need-loop-less Inv-loop μ-loop
 loop-less c = omega arith
 
 loop-again : tie.Need-loop-again Inv-loop μ-loop
-loop-again c = scan-turn (c .before .before .before .before .before .before .loop .inv) _ _ (c .before .before .before .before .before .loop-test .taken) (c .before .before .before .before .if1 .left) (sym (c .before .before .before .read-call .ensures) ∙ c .before .read2 .given .1)
+loop-again c =
+    scan-turn (c .before .before .before .before .before .before .loop .inv) _ _
+    (c .before .before .before .before .before .loop-test .taken) (c .before .before .before .before .if1 .left)
+    (sym (c .before .before .before .read-call .ensures) ∙ c .before .read2 .given .1)
 
 returns-3 : tie.Need-returns-3 Inv-loop μ-loop
 returns-3 c = scan-over (c .before .before .loop .inv) (c .if2 .taken)

@@ -42,7 +42,8 @@ returns-3 : tie.Need-returns-3
 returns-3 c =
     let number = c .before .before in
     let room = number .before .before in
-    incomplete _ _ _ (omega (arith, room .if2 .left, room .before .if1 .left)) _ (number .read-number .ensures .0) _ _ refl refl _ (c .before .is-complete .ensures) (not-true _ (c .if3 .taken))
+    incomplete _ _ _ (omega (arith, room .if2 .left, room .before .if1 .left)) _ (number .read-number .ensures .0) _ _ refl refl _
+    (c .before .is-complete .ensures) (not-true _ (c .if3 .taken))
 
 mark-of-requires : tie.Need-mark-of-requires
 mark-of-requires c κs = search needs
@@ -64,7 +65,8 @@ returns-5 c =
     let marked = c .before .before .before in
     c .read-call .ensures
     ∙ first-is _ _ (omega (arith, room .if2 .left, room .before .if1 .left)) _ (number .read-number .ensures .0) _ _ refl refl _
-    (c .before .before .if4 .left ∙ marked .mark-of .ensures .0) (c .before .if5 .taken) (sym (marked .before .before .is-complete .ensures) ∙ not-false _ (marked .before .if3 .left))
+    (c .before .before .if4 .left ∙ marked .mark-of .ensures .0) (c .before .if5 .taken)
+    (sym (marked .before .before .is-complete .ensures) ∙ not-false _ (marked .before .if3 .left))
 
 read-second-requires : tie.Need-read-second-requires
 read-second-requires c κs =
@@ -73,7 +75,8 @@ read-second-requires c κs =
     let marked = c .before .before in
     let a = room .before .before .before .args in (
       omega (arith, room .if2 .left, room .before .if1 .left),
-      second-map (a .s .now) (a .at) (omega (arith, room .if2 .left, room .before .if1 .left)) _ (number .read-number .ensures .0) _ _ refl refl (a .edition) (c .before .if4 .left ∙ marked .mark-of .ensures .0) (c .if5 .left) .0,
+      second-map (a .s .now) (a .at) (omega (arith, room .if2 .left, room .before .if1 .left)) _ (number .read-number .ensures .0) _ _
+          refl refl (a .edition) (c .before .if4 .left ∙ marked .mark-of .ensures .0) (c .if5 .left) .0,
       sym (marked .before .before .is-complete .ensures) ∙ not-false _ (marked .before .if3 .left),
     )
 
@@ -85,7 +88,8 @@ returns-6 c =
     let a = room .before .before .before .args in
     c .read-second .ensures
     ∙ ap (λ (e : Edition). readAs e (a .s .now) (a .at))
-    (sym (second-map (a .s .now) (a .at) (omega (arith, room .if2 .left, room .before .if1 .left)) _ (number .read-number .ensures .0) _ _ refl refl (a .edition) (c .before .before .if4 .left ∙ marked .mark-of .ensures .0) (c .before .if5 .left) .1))
+    (sym (second-map (a .s .now) (a .at) (omega (arith, room .if2 .left, room .before .if1 .left)) _ (number .read-number .ensures .0) _ _
+    refl refl (a .edition) (c .before .before .if4 .left ∙ marked .mark-of .ensures .0) (c .before .if5 .left) .1))
 
 pub read-as-spec : {M : Type 1} → statement M
 read-as-spec =

@@ -43,7 +43,8 @@ add-result-2 c = search needs
 returns-2 : tie.Need-returns-2
 returns-2 c =
     let a = c .before .before .before .before .args in
-    field-kept (a .part .now) (a .at) (a .n) (c .before .before .before .before .pre .1) (sym (c .before .before .is-down .ensures) ∙ c .before .if1 .left) _ (c .bytes-at .ensures)
+    field-kept (a .part .now) (a .at) (a .n) (c .before .before .before .before .pre .1)
+    (sym (c .before .before .is-down .ensures) ∙ c .before .if1 .left) _ (c .bytes-at .ensures)
 
 pub turn-field-spec : {M : Type 1} → statement M
 turn-field-spec =

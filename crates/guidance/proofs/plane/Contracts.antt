@@ -16,7 +16,25 @@ use Rattle.laws.specs.declared.types.FlightRegime.{FlightRegime}
 use Rattle.laws.specs.declared.types.VehicleState.{VehicleState}
 use Rattle.laws.specs.declared.types.WaypointCommand.{WaypointCommand}
 use Rattle.laws.specs.declared.types.Setpoint.{Setpoint}
-use Rattle.guidance.specs.Plane.{isWaypoint, fresh, created, commanded, waypoint, obeyed, guided, refusal, flown, steered, verticalLaw, allFinite, badTimeStep, badCap, refusalNumber, setpointValues, answerValues}
+use Rattle.guidance.specs.Plane.{
+  isWaypoint,
+  fresh,
+  created,
+  commanded,
+  waypoint,
+  obeyed,
+  guided,
+  refusal,
+  flown,
+  steered,
+  verticalLaw,
+  allFinite,
+  badTimeStep,
+  badCap,
+  refusalNumber,
+  setpointValues,
+  answerValues,
+}
 use Rattle.guidance.specs.Contracts.{createdField, Creates, wouldGive, wouldBeFinite, guideNumber, acceptedValues, Guides}
 use Rattle.guidance.specs.declared.plane.PlaneGuidance.{PlaneGuidance}
 use Rattle.guidance.specs.declared.plane.Created.{Created}

@@ -36,7 +36,12 @@ badRadius (Leg.Some leg) radius = false
 
 -- what a loiter adds to track
 unfoldable pub withCentripetal : OptionVec2 → Float → Float → Lateral → Lateral
-withCentripetal Leg.None speed radius tracked = record { «accel_mps2» = centripetal speed radius +ᶠ tracked .«accel_mps2»; «cross_track_m» = tracked .«cross_track_m»; idle = false }
+withCentripetal Leg.None speed radius tracked =
+    record {
+      «accel_mps2» = centripetal speed radius +ᶠ tracked .«accel_mps2»;
+      «cross_track_m» = tracked .«cross_track_m»;
+      idle = false;
+    }
 withCentripetal (Leg.Some leg) speed radius tracked = tracked
 
 unfoldable pub steer : Aim → OptionVec2 → Vec2 → Vec2 → Float → Float → Float → Float → Lateral

@@ -26,13 +26,23 @@ put-decimal-requires : tie.Need-put-decimal-requires
 put-decimal-requires c κs = refusal-room _ (c .before .before .before .args .part .now) (c .before .if1 .left) (c .before .before .before .pre)
 
 add-result : tie.Need-add-result
-add-result c = omega (arith, refusal-fits _ _ (c .before .before .before .before .if1 .left) (c .before .before .before .before .before .before .pre), c .before .before .put-decimal .ensures .size)
+add-result c =
+    omega (
+      arith,
+      refusal-fits _ _ (c .before .before .before .before .if1 .left) (c .before .before .before .before .before .before .pre),
+      c .before .before .put-decimal .ensures .size,
+    )
 
 same-length : tie.Need-same-length
-same-length c = refusal-puts _ (c .before .before .before .before .before .before .args .part .now) _ _ (c .before .before .before .before .if1 .left) (c .before .before .before .before .before .before .pre) (c .before .before .put-decimal .ensures) .long
+same-length c =
+    refusal-puts _ (c .before .before .before .before .before .before .args .part .now) _ _ (c .before .before .before .before .if1 .left)
+    (c .before .before .before .before .before .before .pre) (c .before .before .put-decimal .ensures) .long
 
 returns-2 : tie.Need-returns-2
-returns-2 c = wrote-all (refusal-puts _ (c .before .before .before .before .before .before .args .part .now) _ _ (c .before .before .before .before .if1 .left) (c .before .before .before .before .before .before .pre) (c .before .before .put-decimal .ensures))
+returns-2 c =
+    wrote-all (refusal-puts _ (c .before .before .before .before .before .before .args .part .now) _ _
+    (c .before .before .before .before .if1 .left) (c .before .before .before .before .before .before .pre)
+    (c .before .before .put-decimal .ensures))
 
 pub put-refusal-spec : {M : Type 1} → statement M
 put-refusal-spec =

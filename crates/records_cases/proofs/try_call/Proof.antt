@@ -13,7 +13,9 @@ returns-2 : tie.Need-returns-2
 returns-2 c = search needs
 
 slice-aggregate-read-call : tie.Need-slice-aggregate-read-call
-slice-aggregate-read-call c = sym (length-take-le (c .before .before .before .before .before .args .e .n) (c .before .before .before .before .before .args .s .now) (omega (arith, c .before .before .if1 .left)))
+slice-aggregate-read-call c =
+    sym (length-take-le (c .before .before .before .before .before .args .e .n) (c .before .before .before .before .before .args .s .now)
+    (omega (arith, c .before .before .if1 .left)))
 
 read-call-requires : tie.Need-read-call-requires
 read-call-requires c κs = search needs
@@ -34,7 +36,10 @@ slice-relend-prefix-put-call : tie.Need-slice-relend-prefix-put-call
 slice-relend-prefix-put-call c = search needs
 
 slice-aggregate-put-call : tie.Need-slice-aggregate-put-call
-slice-aggregate-put-call c = sym (length-take-le (c .before .before .before .before .before .before .before .before .before .before .before .args .e .room) (c .before .before .before .before .before .before .before .before .before .before .before .args .out .now) (omega (arith, c .before .before .before .before .before .before .before .if2 .left)))
+slice-aggregate-put-call c =
+    sym (length-take-le (c .before .before .before .before .before .before .before .before .before .before .before .args .e .room)
+    (c .before .before .before .before .before .before .before .before .before .before .before .args .out .now)
+    (omega (arith, c .before .before .before .before .before .before .before .if2 .left)))
 
 put-call-requires : tie.Need-put-call-requires
 put-call-requires c κs = search needs

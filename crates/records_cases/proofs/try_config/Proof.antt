@@ -13,7 +13,9 @@ returns-2 : tie.Need-returns-2
 returns-2 c = search needs
 
 slice-aggregate-read-config : tie.Need-slice-aggregate-read-config
-slice-aggregate-read-config c = sym (length-take-le (c .before .before .before .before .before .args .e .n) (c .before .before .before .before .before .args .s .now) (omega (arith, c .before .before .if1 .left)))
+slice-aggregate-read-config c =
+    sym (length-take-le (c .before .before .before .before .before .args .e .n) (c .before .before .before .before .before .args .s .now)
+    (omega (arith, c .before .before .if1 .left)))
 
 read-config-requires : tie.Need-read-config-requires
 read-config-requires c κs = search needs
@@ -34,7 +36,10 @@ slice-relend-prefix-put-config : tie.Need-slice-relend-prefix-put-config
 slice-relend-prefix-put-config c = search needs
 
 slice-aggregate-put-config : tie.Need-slice-aggregate-put-config
-slice-aggregate-put-config c = sym (length-take-le (c .before .before .before .before .before .before .before .before .before .before .before .args .e .room) (c .before .before .before .before .before .before .before .before .before .before .before .args .out .now) (omega (arith, c .before .before .before .before .before .before .before .if2 .left)))
+slice-aggregate-put-config c =
+    sym (length-take-le (c .before .before .before .before .before .before .before .before .before .before .before .args .e .room)
+    (c .before .before .before .before .before .before .before .before .before .before .before .args .out .now)
+    (omega (arith, c .before .before .before .before .before .before .before .if2 .left)))
 
 put-config-requires : tie.Need-put-config-requires
 put-config-requires c κs = search needs

@@ -35,13 +35,32 @@ stopped-line-requires : tie.Need-stopped-line-requires Inv-loop μ-loop
 stopped-line-requires c κs = search needs
 
 print-requires : tie.Need-print-requires Inv-loop μ-loop
-print-requires c κs = stop-asks (c .before .before .before .before .before .before .before .before .loop .inv) _ _ (c .stopped-line .ensures) (left-bad (c .before .before .before .before .before .before .before .before .loop .inv) _ (c .before .before .before .before .before .before .before .loop-test .taken) (c .before .before .before .before .before .before .if1 .left) (sym (c .before .before .before .before .before .read-call .ensures) ∙ c .before .before .before .read .given .1))
+print-requires c κs =
+    stop-asks (c .before .before .before .before .before .before .before .before .loop .inv) _ _ (c .stopped-line .ensures)
+    (left-bad (c .before .before .before .before .before .before .before .before .loop .inv) _
+    (c .before .before .before .before .before .before .before .loop-test .taken)
+    (c .before .before .before .before .before .before .if1 .left)
+    (sym (c .before .before .before .before .before .read-call .ensures) ∙ c .before .before .before .read .given .1))
 
 same-length-2 : tie.Need-same-length-2 Inv-loop μ-loop
-same-length-2 c = stop-ends (c .before .before .before .before .before .before .before .before .before .before .before .loop .inv) _ _ (c .before .before .before .stopped-line .ensures) (left-bad (c .before .before .before .before .before .before .before .before .before .before .before .loop .inv) _ (c .before .before .before .before .before .before .before .before .before .before .loop-test .taken) (c .before .before .before .before .before .before .before .before .before .if1 .left) (sym (c .before .before .before .before .before .before .before .before .read-call .ensures) ∙ c .before .before .before .before .before .before .read .given .1)) _ _ (c .before .before .print .ensures) .long
+same-length-2 c =
+    stop-ends (c .before .before .before .before .before .before .before .before .before .before .before .loop .inv) _ _
+    (c .before .before .before .stopped-line .ensures)
+    (left-bad (c .before .before .before .before .before .before .before .before .before .before .before .loop .inv) _
+    (c .before .before .before .before .before .before .before .before .before .before .loop-test .taken)
+    (c .before .before .before .before .before .before .before .before .before .if1 .left)
+    (sym (c .before .before .before .before .before .before .before .before .read-call .ensures)
+    ∙ c .before .before .before .before .before .before .read .given .1)) _ _ (c .before .before .print .ensures) .long
 
 returns-2 : tie.Need-returns-2 Inv-loop μ-loop
-returns-2 c = printed-all (stop-ends (c .before .before .before .before .before .before .before .before .before .before .before .loop .inv) _ _ (c .before .before .before .stopped-line .ensures) (left-bad (c .before .before .before .before .before .before .before .before .before .before .before .loop .inv) _ (c .before .before .before .before .before .before .before .before .before .before .loop-test .taken) (c .before .before .before .before .before .before .before .before .before .if1 .left) (sym (c .before .before .before .before .before .before .before .before .read-call .ensures) ∙ c .before .before .before .before .before .before .read .given .1)) _ _ (c .before .before .print .ensures))
+returns-2 c =
+    printed-all (stop-ends (c .before .before .before .before .before .before .before .before .before .before .before .loop .inv) _ _
+    (c .before .before .before .stopped-line .ensures)
+    (left-bad (c .before .before .before .before .before .before .before .before .before .before .before .loop .inv) _
+    (c .before .before .before .before .before .before .before .before .before .before .loop-test .taken)
+    (c .before .before .before .before .before .before .before .before .before .if1 .left)
+    (sym (c .before .before .before .before .before .before .before .before .read-call .ensures)
+    ∙ c .before .before .before .before .before .before .read .given .1)) _ _ (c .before .before .print .ensures))
 
 enum-known-read-2 : tie.Need-enum-known-read-2 Inv-loop μ-loop
 enum-known-read-2 c = search needs
@@ -50,7 +69,12 @@ call-line-requires : tie.Need-call-line-requires Inv-loop μ-loop
 call-line-requires c κs = search needs
 
 print-requires-2 : tie.Need-print-requires-2 Inv-loop μ-loop
-print-requires-2 c κs = turn-asks (c .before .before .before .before .before .before .before .before .before .before .loop .inv) (c .before .before .before .before .before .before .before .before .before .loop-test .taken) (c .before .before .before .before .before .before .before .before .if1 .left) _ _ (sym (c .before .before .before .before .before .before .before .read-call .ensures) ∙ c .before .before .before .before .before .read2 .given .1) _ (c .before .before .before .call-line .ensures)
+print-requires-2 c κs =
+    turn-asks (c .before .before .before .before .before .before .before .before .before .before .loop .inv)
+    (c .before .before .before .before .before .before .before .before .before .loop-test .taken)
+    (c .before .before .before .before .before .before .before .before .if1 .left) _ _
+    (sym (c .before .before .before .before .before .before .before .read-call .ensures)
+    ∙ c .before .before .before .before .before .read2 .given .1) _ (c .before .before .before .call-line .ensures)
 
 add-n : tie.Need-add-n Inv-loop μ-loop
 add-n c = omega arith
@@ -59,7 +83,13 @@ loop-less : tie.Need-loop-less Inv-loop μ-loop
 loop-less c = omega arith
 
 loop-again : tie.Need-loop-again Inv-loop μ-loop
-loop-again c = call-turn (c .before .before .before .before .before .before .before .before .before .before .before .before .before .loop .inv) (c .before .before .before .before .before .before .before .before .before .before .before .before .loop-test .taken) (c .before .before .before .before .before .before .before .before .before .before .before .if1 .left) _ _ (sym (c .before .before .before .before .before .before .before .before .before .before .read-call .ensures) ∙ c .before .before .before .before .before .before .before .before .read2 .given .1) _ (c .before .before .before .before .before .before .call-line .ensures) _ _ (c .before .before .print2 .ensures)
+loop-again c =
+    call-turn (c .before .before .before .before .before .before .before .before .before .before .before .before .before .loop .inv)
+    (c .before .before .before .before .before .before .before .before .before .before .before .before .loop-test .taken)
+    (c .before .before .before .before .before .before .before .before .before .before .before .if1 .left) _ _
+    (sym (c .before .before .before .before .before .before .before .before .before .before .read-call .ensures)
+    ∙ c .before .before .before .before .before .before .before .before .read2 .given .1) _
+    (c .before .before .before .before .before .before .call-line .ensures) _ _ (c .before .before .print2 .ensures)
 
 same-length-3 : tie.Need-same-length-3 Inv-loop μ-loop
 same-length-3 c = c .before .before .loop .inv .printed .long
@@ -71,13 +101,25 @@ stopped-line-requires-2 : tie.Need-stopped-line-requires-2 Inv-loop μ-loop
 stopped-line-requires-2 c κs = search needs
 
 print-requires-3 : tie.Need-print-requires-3 Inv-loop μ-loop
-print-requires-3 c κs = stop-asks (c .before .before .before .before .loop .inv) _ _ (c .stopped-line2 .ensures) (left-nine (c .before .before .before .before .loop .inv) (c .before .before .before .loop-test .left) (c .before .before .if2 .left))
+print-requires-3 c κs =
+    stop-asks (c .before .before .before .before .loop .inv) _ _ (c .stopped-line2 .ensures)
+    (left-nine (c .before .before .before .before .loop .inv) (c .before .before .before .loop-test .left) (c .before .before .if2 .left))
 
 same-length-4 : tie.Need-same-length-4 Inv-loop μ-loop
-same-length-4 c = stop-ends (c .before .before .before .before .before .before .before .loop .inv) _ _ (c .before .before .before .stopped-line2 .ensures) (left-nine (c .before .before .before .before .before .before .before .loop .inv) (c .before .before .before .before .before .before .loop-test .left) (c .before .before .before .before .before .if2 .left)) _ _ (c .before .before .print3 .ensures) .long
+same-length-4 c =
+    stop-ends (c .before .before .before .before .before .before .before .loop .inv) _ _
+    (c .before .before .before .stopped-line2 .ensures)
+    (left-nine (c .before .before .before .before .before .before .before .loop .inv)
+    (c .before .before .before .before .before .before .loop-test .left) (c .before .before .before .before .before .if2 .left)) _ _
+    (c .before .before .print3 .ensures) .long
 
 returns-4 : tie.Need-returns-4 Inv-loop μ-loop
-returns-4 c = printed-all (stop-ends (c .before .before .before .before .before .before .before .loop .inv) _ _ (c .before .before .before .stopped-line2 .ensures) (left-nine (c .before .before .before .before .before .before .before .loop .inv) (c .before .before .before .before .before .before .loop-test .left) (c .before .before .before .before .before .if2 .left)) _ _ (c .before .before .print3 .ensures))
+returns-4 c =
+    printed-all (stop-ends (c .before .before .before .before .before .before .before .loop .inv) _ _
+    (c .before .before .before .stopped-line2 .ensures)
+    (left-nine (c .before .before .before .before .before .before .before .loop .inv)
+    (c .before .before .before .before .before .before .loop-test .left) (c .before .before .before .before .before .if2 .left)) _ _
+    (c .before .before .print3 .ensures))
 
 pub calls-spec : {M : Type 1} → statement M
 calls-spec =

@@ -11,8 +11,19 @@ use Rattle.replay.proofs.print.Statement.{statement}
 use Rattle.replay.proofs.print.Tie as tie
 
 -- what stands after the line
-printed : (c : tie.After-slice-known2) → Prints (c .before .before .before .before .before .before .args .write) (c .before .before .before .before .before .before .args .to) (text (c .before .before .before .before .before .before .args .l)) (c .before .before .before .before .before .before .args .out .now) (putMid (c .before .before .before .before .before .before .args .to) (length (c .before .before .before .before .before .before .args .out .now) - c .before .before .before .before .before .before .args .to) (c .before .before .before .before .before .before .args .out .now) (c .before .before .put-line .last .0)) (c .before .before .before .before .before .before .args .to + c .before .before .put-line .result)
-printed c = print-writes _ _ _ _ _ _ (c .before .before .before .before .if1 .taken) (c .before .before .before .before .before .before .pre .2 (c .before .before .before .before .if1 .taken)) (c .before .before .put-line .ensures)
+printed : (c : tie.After-slice-known2)
+    → Prints (c .before .before .before .before .before .before .args .write)
+    (c .before .before .before .before .before .before .args .to) (text (c .before .before .before .before .before .before .args .l))
+    (c .before .before .before .before .before .before .args .out .now)
+    (putMid (c .before .before .before .before .before .before .args .to)
+    (length (c .before .before .before .before .before .before .args .out .now)
+    - c .before .before .before .before .before .before .args .to) (c .before .before .before .before .before .before .args .out .now)
+    (c .before .before .put-line .last .0))
+    (c .before .before .before .before .before .before .args .to + c .before .before .put-line .result)
+printed c =
+    print-writes _ _ _ _ _ _ (c .before .before .before .before .if1 .taken)
+    (c .before .before .before .before .before .before .pre .2 (c .before .before .before .before .if1 .taken))
+    (c .before .before .put-line .ensures)
 
 sub-put-line : tie.Need-sub-put-line
 sub-put-line c = omega (arith, c .before .before .pre .2 (c .if1 .taken))
@@ -24,10 +35,19 @@ part-put-line-end : tie.Need-part-put-line-end
 part-put-line-end c = search needs
 
 put-line-requires : tie.Need-put-line-requires
-put-line-requires c κs = (c .before .before .before .pre .0, print-room (c .before .before .before .args .out .now) _ _ (c .before .before .before .pre .2 (c .before .if1 .taken)))
+put-line-requires c κs = (
+  c .before .before .before .pre .0,
+  print-room (c .before .before .before .args .out .now) _ _ (c .before .before .before .pre .2 (c .before .if1 .taken)),
+)
 
 add-result : tie.Need-add-result
-add-result c = omega (arith, c .before .before .put-line .ensures .size, text-short (c .before .before .before .before .before .before .args .l) (c .before .before .before .before .before .before .pre .0), c .before .before .before .before .before .before .pre .1)
+add-result c =
+    omega (
+      arith,
+      c .before .before .put-line .ensures .size,
+      text-short (c .before .before .before .before .before .before .args .l) (c .before .before .before .before .before .before .pre .0),
+      c .before .before .before .before .before .before .pre .1,
+    )
 
 same-length : tie.Need-same-length
 same-length c = search needs
@@ -42,7 +62,13 @@ put-line-requires-2 : tie.Need-put-line-requires-2
 put-line-requires-2 c κs = (c .before .before .before .pre .0, text-short (c .before .before .before .args .l) (c .before .before .before .pre .0))
 
 add-result-2 : tie.Need-add-result-2
-add-result-2 c = omega (arith, c .before .put-line2 .ensures .size, text-short (c .before .before .before .before .before .args .l) (c .before .before .before .before .before .pre .0), c .before .before .before .before .before .pre .1)
+add-result-2 c =
+    omega (
+      arith,
+      c .before .put-line2 .ensures .size,
+      text-short (c .before .before .before .before .before .args .l) (c .before .before .before .before .before .pre .0),
+      c .before .before .before .before .before .pre .1,
+    )
 
 returns-2 : tie.Need-returns-2
 returns-2 c = print-measures _ _ _ _ _ _ _ (c .before .before .before .if1 .left) (c .before .put-line2 .ensures)

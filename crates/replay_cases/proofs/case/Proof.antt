@@ -30,13 +30,21 @@ array-share-prefix-s : tie.Need-array-share-prefix-s
 array-share-prefix-s c = search needs
 
 slice-aggregate-agrees : tie.Need-slice-aggregate-agrees
-slice-aggregate-agrees c = front-long (c .before .before .before .before .before .before .before .read-file .last .1 .0) _ (omega (arith, c .before .before .before .before .before .before .before .read-file .ensures, c .before .before .before .before .before .before .before .read-file .kept .1 .0))
+slice-aggregate-agrees c =
+    front-long (c .before .before .before .before .before .before .before .read-file .last .1 .0) _
+    (omega (
+      arith,
+      c .before .before .before .before .before .before .before .read-file .ensures,
+      c .before .before .before .before .before .before .before .read-file .kept .1 .0,
+    ))
 
 array-share-prefix-t : tie.Need-array-share-prefix-t
 array-share-prefix-t c = search needs
 
 slice-aggregate-agrees-2 : tie.Need-slice-aggregate-agrees-2
-slice-aggregate-agrees-2 c = front-long (c .before .before .before .before .read-file2 .last .1 .0) _ (omega (arith, c .before .before .before .before .read-file2 .ensures, c .before .before .before .before .read-file2 .kept .1 .0))
+slice-aggregate-agrees-2 c =
+    front-long (c .before .before .before .before .read-file2 .last .1 .0) _
+    (omega (arith, c .before .before .before .before .read-file2 .ensures, c .before .before .before .before .read-file2 .kept .1 .0))
 
 agrees-requires : tie.Need-agrees-requires
 agrees-requires c κs = search needs

@@ -52,7 +52,8 @@ same-length c = search needs
 returns : tie.Need-returns
 returns c =
     let a = c .before .before .before .before .before .before .args in
-    wrote-one _ _ _ (is-one (a .map) (a .size) (c .before .before .before .before .before .before .pre .0) (c .before .before .before .before .if1 .taken)) (c .before .before .write-number .ensures)
+    wrote-one _ _ _ (is-one (a .map) (a .size) (c .before .before .before .before .before .before .pre .0)
+    (c .before .before .before .before .if1 .taken)) (c .before .before .write-number .ensures)
 
 same-length-2 : tie.Need-same-length-2
 same-length-2 c = search needs

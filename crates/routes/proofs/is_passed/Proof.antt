@@ -20,7 +20,14 @@ dot-requires c κs = search needs
 
 returns : tie.Need-returns
 unfolding isPassed
-returns c = rw (c .dot .ensures, c .before .minus2 .ensures, c .before .before .minus .ensures, c .before .before .before .place2 .ensures, c .before .before .before .before .place .ensures)
+returns c =
+    rw (
+      c .dot .ensures,
+      c .before .minus2 .ensures,
+      c .before .before .minus .ensures,
+      c .before .before .before .place2 .ensures,
+      c .before .before .before .before .place .ensures,
+    )
 
 pub is-passed-spec : {M : Type 1} → statement M
 is-passed-spec =

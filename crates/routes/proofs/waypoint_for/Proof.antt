@@ -38,7 +38,15 @@ fly-to-requires-2 : tie.Need-fly-to-requires-2
 fly-to-requires-2 c κs = search needs
 
 returns-2 : tie.Need-returns-2
-returns-2 c = rw (c .fly-to2 .ensures, c .before .minus .ensures, c .before .before .place2 .ensures, c .before .before .before .place .ensures, c .before .before .before .before .point-at3 .ensures, c .before .before .before .before .before .point-at2 .ensures)
+returns-2 c =
+    rw (
+      c .fly-to2 .ensures,
+      c .before .minus .ensures,
+      c .before .before .place2 .ensures,
+      c .before .before .before .place .ensures,
+      c .before .before .before .before .point-at3 .ensures,
+      c .before .before .before .before .before .point-at2 .ensures,
+    )
     (waypoint-leg _ _ _ (c .before .before .before .before .before .before .before .if1 .left) (omega arith) (c .before .before .before .before .before .before .if2 .taken))
 
 sub-point-at-3 : tie.Need-sub-point-at-3

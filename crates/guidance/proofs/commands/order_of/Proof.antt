@@ -28,4 +28,7 @@ unfolding orderOf
 returns-6 c = rw (c .absolute-rate .ensures, c .before .before .input5 .given .1)
 
 pub order-of-spec : {M : Type 1} → statement M
-order-of-spec = tie.close (tie.spec (λ c. search needs) (λ c κs. tt) (λ c. search needs) (λ c κs. tt) (λ c. search needs) (λ c. search needs) (λ c κs. tt) (λ c. search needs) (λ c κs. tt) (λ c. search needs) (λ c κs. tt) returns returns-2 returns-3 returns-4 returns-5 returns-6)
+order-of-spec =
+    tie.close (tie.spec (λ c. search needs) (λ c κs. tt) (λ c. search needs) (λ c κs. tt) (λ c. search needs) (λ c. search needs)
+    (λ c κs. tt) (λ c. search needs) (λ c κs. tt) (λ c. search needs) (λ c κs. tt) returns returns-2 returns-3 returns-4 returns-5
+    returns-6)

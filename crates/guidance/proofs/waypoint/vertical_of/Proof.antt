@@ -25,4 +25,6 @@ unfolding vertical
 returns-3 c = rw (c .fallback .ensures, c .before .enum-told3 .given .1)
 
 pub vertical-of-spec : {M : Type 1} → statement M
-vertical-of-spec = tie.close (tie.spec (λ c. search needs) (λ c κs. tt) (λ c κs. tt) (λ c κs. tt) (λ c κs. tt) (λ c. search needs) (λ c κs. tt) (λ c κs. tt) (λ c κs. tt) (λ c. search needs) (λ c κs. tt) returns returns-2 returns-3)
+vertical-of-spec =
+    tie.close (tie.spec (λ c. search needs) (λ c κs. tt) (λ c κs. tt) (λ c κs. tt) (λ c κs. tt) (λ c. search needs)
+    (λ c κs. tt) (λ c κs. tt) (λ c κs. tt) (λ c. search needs) (λ c κs. tt) returns returns-2 returns-3)

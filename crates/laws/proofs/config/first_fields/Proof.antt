@@ -18,7 +18,24 @@ returns c =
     let c11 = c10 .before in
     let c12 = c11 .before in
     let c13 = c12 .before in
-    rw (← c13 .check-limit .ensures, ← c12 .check-limit2 .ensures, ← c11 .check-limit3 .ensures, ← c10 .check-positive .ensures, ← c9 .check-positive2 .ensures, ← c8 .check-positive3 .ensures, ← c7 .check-within .ensures, ← c6 .check-within2 .ensures, ← c5 .check-limit4 .ensures, ← c4 .check-limit5 .ensures, ← c3 .check-limit6 .ensures, ← c2 .check-within3 .ensures, ← c1 .check-within4 .ensures, ← c .check-within5 .ensures)
+    rw (
+      ← c13 .check-limit .ensures,
+      ← c12 .check-limit2 .ensures,
+      ← c11 .check-limit3 .ensures,
+      ← c10 .check-positive .ensures,
+      ← c9 .check-positive2 .ensures,
+      ← c8 .check-positive3 .ensures,
+      ← c7 .check-within .ensures,
+      ← c6 .check-within2 .ensures,
+      ← c5 .check-limit4 .ensures,
+      ← c4 .check-limit5 .ensures,
+      ← c3 .check-limit6 .ensures,
+      ← c2 .check-within3 .ensures,
+      ← c1 .check-within4 .ensures,
+      ← c .check-within5 .ensures,
+    )
 
 pub first-fields-spec : {M : Type 1} → statement M
-first-fields-spec = tie.close (tie.spec (λ c κs. tt) (λ c κs. tt) (λ c κs. tt) (λ c κs. tt) (λ c κs. tt) (λ c κs. tt) (λ c κs. tt) (λ c κs. tt) (λ c κs. tt) (λ c κs. tt) (λ c κs. tt) (λ c κs. tt) (λ c κs. tt) (λ c κs. tt) returns)
+first-fields-spec =
+    tie.close (tie.spec (λ c κs. tt) (λ c κs. tt) (λ c κs. tt) (λ c κs. tt) (λ c κs. tt) (λ c κs. tt) (λ c κs. tt)
+    (λ c κs. tt) (λ c κs. tt) (λ c κs. tt) (λ c κs. tt) (λ c κs. tt) (λ c κs. tt) (λ c κs. tt) returns)

@@ -24,10 +24,14 @@ mul-put-point : tie.Need-mul-put-point Inv-loop μ-loop
 mul-put-point c = omega (arith, c .before .before .before .before .before .before .loop .inv .few, c .before .before .before .before .before .loop-test .taken)
 
 sub-put-point : tie.Need-sub-put-point Inv-loop μ-loop
-sub-put-point c = here (c .before .before .before .before .before .before .loop .inv) (c .before .before .before .before .step .result) (c .before .before .before .before .step .ensures) (c .before .before .before .before .before .loop-test .taken)
+sub-put-point c =
+    here (c .before .before .before .before .before .before .loop .inv) (c .before .before .before .before .step .result)
+    (c .before .before .before .before .step .ensures) (c .before .before .before .before .before .loop-test .taken)
 
 part-put-point-start : tie.Need-part-put-point-start Inv-loop μ-loop
-part-put-point-start c = here (c .before .before .before .before .before .before .loop .inv) (c .before .before .before .before .step .result) (c .before .before .before .before .step .ensures) (c .before .before .before .before .before .loop-test .taken)
+part-put-point-start c =
+    here (c .before .before .before .before .before .before .loop .inv) (c .before .before .before .before .step .result)
+    (c .before .before .before .before .step .ensures) (c .before .before .before .before .before .loop-test .taken)
 
 part-put-point-end : tie.Need-part-put-point-end Inv-loop μ-loop
 part-put-point-end c = omega arith
@@ -38,7 +42,12 @@ put-point-requires c κs =
     has-room (w .before .before .loop .inv) (w .step .result) (w .step .ensures) (w .before .loop-test .taken)
 
 add-n : tie.Need-add-n Inv-loop μ-loop
-add-n c = omega (arith, c .before .before .before .before .before .before .before .before .before .before .loop .inv .few, c .before .before .before .before .before .before .before .before .before .loop-test .taken)
+add-n c =
+    omega (
+      arith,
+      c .before .before .before .before .before .before .before .before .before .before .loop .inv .few,
+      c .before .before .before .before .before .before .before .before .before .loop-test .taken,
+    )
 
 loop-less : tie.Need-loop-less Inv-loop μ-loop
 loop-less c = omega (arith, c .before .before .before .before .before .before .before .before .before .loop-test .taken)

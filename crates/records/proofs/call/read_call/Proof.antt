@@ -112,7 +112,13 @@ call-at-requires : tie.Need-call-at-requires
 call-at-requires c κs = search needs
 
 add-t9 : tie.Need-add-t9
-add-t9 c = omega (arith, c .before .before .before .before .before .before .before .before .before .if4 .left, c .before .before .before .before .before .before .before .before .before .before .before .before .before .before .before .before .if1 .left, c .before .before .before .before .before .before .before .before .before .before .before .before .before .before .before .before .before .before .good)
+add-t9 c =
+    omega (
+      arith,
+      c .before .before .before .before .before .before .before .before .before .if4 .left,
+      c .before .before .before .before .before .before .before .before .before .before .before .before .before .before .before .before .if1 .left,
+      c .before .before .before .before .before .before .before .before .before .before .before .before .before .before .before .before .before .before .good,
+    )
 
 returns-7 : tie.Need-returns-7
 returns-7 c =

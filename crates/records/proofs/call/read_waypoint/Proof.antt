@@ -45,7 +45,9 @@ part-v-end-2 c =
 
 read-group-requires-2 : tie.Need-read-group-requires-2
 read-group-requires-2 c κs =
-    let f1 = filled-first _ _ _ 20 5 (omega arith) (c .before .before .before .before .before .before .before .before .pre) _ _ (c .before .before .before .before .before .read-floats .ensures) in
+    let f1 =
+    filled-first _ _ _ 20 5 (omega arith) (c .before .before .before .before .before .before .before .before .pre) _ _
+    (c .before .before .before .before .before .read-floats .ensures) in
     let f2 = filled-more f1 2 (omega arith) _ _ (c .before .before .read-group .ensures) in
     asks-group f2 2 (omega arith) 3 refl
 
@@ -57,14 +59,19 @@ part-v-start-3 c = search needs
 
 part-v-end-3 : tie.Need-part-v-end-3
 part-v-end-3 c =
-    let f1 = filled-first _ _ _ 20 5 (omega arith) (c .before .before .before .before .before .before .before .before .before .before .pre) _ _ (c .before .before .before .before .before .before .before .read-floats .ensures) in
+    let f1 =
+    filled-first _ _ _ 20 5 (omega arith) (c .before .before .before .before .before .before .before .before .before .before .pre) _ _
+    (c .before .before .before .before .before .before .before .read-floats .ensures) in
     let f2 = filled-more f1 2 (omega arith) _ _ (c .before .before .before .before .read-group .ensures) in
     let f3 = filled-more f2 2 (omega arith) _ _ (c .before .read-group2 .ensures) in
     rw (filled-long f3 (omega arith)) (omega arith)
 
 read-group-requires-3 : tie.Need-read-group-requires-3
 read-group-requires-3 c κs =
-    let f1 = filled-first _ _ _ 20 5 (omega arith) (c .before .before .before .before .before .before .before .before .before .before .before .pre) _ _ (c .before .before .before .before .before .before .before .before .read-floats .ensures) in
+    let f1 =
+    filled-first _ _ _ 20 5 (omega arith)
+    (c .before .before .before .before .before .before .before .before .before .before .before .pre) _ _
+    (c .before .before .before .before .before .before .before .before .read-floats .ensures) in
     let f2 = filled-more f1 2 (omega arith) _ _ (c .before .before .before .before .before .read-group .ensures) in
     let f3 = filled-more f2 2 (omega arith) _ _ (c .before .before .read-group2 .ensures) in
     asks-group f3 9 (omega arith) 511 refl
@@ -77,7 +84,10 @@ part-v-start-4 c = search needs
 
 part-v-end-4 : tie.Need-part-v-end-4
 part-v-end-4 c =
-    let f1 = filled-first _ _ _ 20 5 (omega arith) (c .before .before .before .before .before .before .before .before .before .before .before .before .before .pre) _ _ (c .before .before .before .before .before .before .before .before .before .before .read-floats .ensures) in
+    let f1 =
+    filled-first _ _ _ 20 5 (omega arith)
+    (c .before .before .before .before .before .before .before .before .before .before .before .before .before .pre) _ _
+    (c .before .before .before .before .before .before .before .before .before .before .read-floats .ensures) in
     let f2 = filled-more f1 2 (omega arith) _ _ (c .before .before .before .before .before .before .before .read-group .ensures) in
     let f3 = filled-more f2 2 (omega arith) _ _ (c .before .before .before .before .read-group2 .ensures) in
     let f4 = filled-more f3 9 (omega arith) _ _ (c .before .read-group3 .ensures) in
@@ -85,7 +95,10 @@ part-v-end-4 c =
 
 read-floats-requires-2 : tie.Need-read-floats-requires-2
 read-floats-requires-2 c κs =
-    let f1 = filled-first _ _ _ 20 5 (omega arith) (c .before .before .before .before .before .before .before .before .before .before .before .before .before .before .pre) _ _ (c .before .before .before .before .before .before .before .before .before .before .before .read-floats .ensures) in
+    let f1 =
+    filled-first _ _ _ 20 5 (omega arith)
+    (c .before .before .before .before .before .before .before .before .before .before .before .before .before .before .pre) _ _
+    (c .before .before .before .before .before .before .before .before .before .before .before .read-floats .ensures) in
     let f2 = filled-more f1 2 (omega arith) _ _ (c .before .before .before .before .before .before .before .before .read-group .ensures) in
     let f3 = filled-more f2 2 (omega arith) _ _ (c .before .before .before .before .before .read-group2 .ensures) in
     let f4 = filled-more f3 9 (omega arith) _ _ (c .before .before .read-group3 .ensures) in
@@ -93,7 +106,12 @@ read-floats-requires-2 c κs =
 
 returns : tie.Need-returns
 returns c =
-    let f1 = filled-first _ _ _ 20 5 (omega arith) (c .before .before .before .before .before .before .before .before .before .before .before .before .before .before .before .before .pre) _ _ (c .before .before .before .before .before .before .before .before .before .before .before .before .before .read-floats .ensures) in
+    let f1 =
+    filled-first _ _ _ 20 5 (omega arith)
+    (c .before .before .before .before .before .before .before .before .before .before .before .before .before .before .before .before .pre)
+    _ _
+    (c .before .before .before .before .before .before .before .before .before .before .before .before .before .read-floats .ensures)
+    in
     let f2 = filled-more f1 2 (omega arith) _ _ (c .before .before .before .before .before .before .before .before .before .before .read-group .ensures) in
     let f3 = filled-more f2 2 (omega arith) _ _ (c .before .before .before .before .before .before .before .read-group2 .ensures) in
     let f4 = filled-more f3 9 (omega arith) _ _ (c .before .before .before .before .read-group3 .ensures) in

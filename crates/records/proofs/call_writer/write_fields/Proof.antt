@@ -49,7 +49,17 @@ same-length c = search needs
 returns : tie.Need-returns
 returns c =
     let a = c .before .before .before .before .before .before .before .before .before .before .before .before .before .before .before .before .before .before .args in
-    fields-written (a .part .now) (c .before .before .before .before .before .before .before .before .before .before .before .before .before .before .write-number .last .0) (c .before .before .before .before .before .before .before .before .before .before .write-byte .last .0) (c .before .before .before .before .before .before .write-byte2 .last .0) _ (a .map) (a .kind) (a .regime) _ _ (a .v .now) (c .before .before .before .before .before .before .before .before .before .before .before .before .before .before .before .before .before .before .pre .0) (c .before .before .before .before .before .before .before .before .before .before .before .before .before .before .before .before .before .before .pre .1) (c .before .before .before .before .before .before .before .before .before .before .before .before .before .before .write-number .ensures) (c .before .before .before .before .before .before .before .before .before .before .write-byte .ensures .0) (c .before .before .before .before .before .before .before .before .before .before .write-byte .ensures .1) (c .before .before .before .before .before .before .write-byte2 .ensures .0) (c .before .before .before .before .before .before .write-byte2 .ensures .1) (c .before .before .write-numbers .ensures)
+    fields-written (a .part .now)
+    (c .before .before .before .before .before .before .before .before .before .before .before .before .before .before .write-number .last .0)
+    (c .before .before .before .before .before .before .before .before .before .before .write-byte .last .0)
+    (c .before .before .before .before .before .before .write-byte2 .last .0) _ (a .map) (a .kind) (a .regime) _ _ (a .v .now)
+    (c .before .before .before .before .before .before .before .before .before .before .before .before .before .before .before .before .before .before .pre .0)
+    (c .before .before .before .before .before .before .before .before .before .before .before .before .before .before .before .before .before .before .pre .1)
+    (c .before .before .before .before .before .before .before .before .before .before .before .before .before .before .write-number .ensures)
+    (c .before .before .before .before .before .before .before .before .before .before .write-byte .ensures .0)
+    (c .before .before .before .before .before .before .before .before .before .before .write-byte .ensures .1)
+    (c .before .before .before .before .before .before .write-byte2 .ensures .0)
+    (c .before .before .before .before .before .before .write-byte2 .ensures .1) (c .before .before .write-numbers .ensures)
 
 pub write-fields-spec : {M : Type 1} → statement M
 write-fields-spec =

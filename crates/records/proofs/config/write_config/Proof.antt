@@ -59,7 +59,9 @@ slice-aggregate-write-fields c = search needs
 
 write-fields-requires : tie.Need-write-fields-requires
 write-fields-requires c κs =
-    let long : length (c .before .before .before .before .before .before .bits-of .result) ≡ 33 = ap length (c .before .before .before .before .before .before .bits-of .ensures) ∙ bits-long (c .before .before .before .before .before .before .before .before .args .c) in
+    let long : length (c .before .before .before .before .before .before .bits-of .result) ≡ 33 =
+    ap length (c .before .before .before .before .before .before .bits-of .ensures)
+    ∙ bits-long (c .before .before .before .before .before .before .before .before .args .c) in
     rw long
     (omega (
       arith,
@@ -76,7 +78,9 @@ same-length c = search needs
 returns-3 : tie.Need-returns-3
 returns-3 c =
     let b = c .before .before .before .before .before .before .before .before .before .bits-of .ensures in
-    let m = map-is (c .before .before .before .before .before .before .before .before .before .before .before .args .c) _ _ b (c .before .before .before .before .before .before .before .before .config-map .ensures .0) in
+    let m =
+    map-is (c .before .before .before .before .before .before .before .before .before .before .before .args .c) _ _ b
+    (c .before .before .before .before .before .before .before .before .config-map .ensures .0) in
     accepted _ _
     (configRecord (c .before .before .before .before .before .before .before .before .before .before .before .args .c)) _
     (record-long

@@ -36,7 +36,14 @@ returns c = rw (c .before .before .to-bits .ensures, c .before .to-bits2 .ensure
 
 returns-2 : tie.Need-returns-2
 unfolding setpointLine
-returns-2 c = rw (c .before .before .before .to-bits4 .ensures, c .before .before .to-bits5 .ensures, c .before .to-bits6 .ensures, c .to-bits7 .ensures, c .before .before .before .before .before .setpoint2 .given .1)
+returns-2 c =
+    rw (
+      c .before .before .before .to-bits4 .ensures,
+      c .before .before .to-bits5 .ensures,
+      c .before .to-bits6 .ensures,
+      c .to-bits7 .ensures,
+      c .before .before .before .before .before .setpoint2 .given .1,
+    )
 
 pub setpoint-line-spec : {M : Type 1} → statement M
 setpoint-line-spec =
