@@ -5,7 +5,7 @@
  *   - a pointer points to as many initialised bytes as its length says, and is not null even where that is 0;
  *   - a pointer to a guidance points to an initialised one, before NUTHKOLLA_NEW too (zeros will do);
  *   - what two pointers of one call point to does not overlap;
- *   - the stack has room, 2 kB (docs/HOST.md has the figures);
+ *   - the stack has room, 2 kB, for nuthkolla_agree 6 kB (docs/HOST.md has the figures);
  *   - one guidance is used from one thread at a time; two guidances can be used from two threads at once.
  * Nothing is allocated, no file or clock is read, no other memory is kept or changed. docs/ARCHITECTURE.md,
  * "What is proved and what is trusted", says the rest.
@@ -40,8 +40,10 @@
  * of a writer:
  *   7  a kind is above 6, or a regime above 1
  *   8  a buffer has too few bytes from the named place, or the place is past its end
- *  10  a route's map is empty
- *  11  a number of a route's record is not finite
+ * of a route, each after the refusals of its record's map and before those of a guide call:
+ *  10  its map is empty
+ *  11  a number of its record is not finite
+ * of a taking back:
  *  14  no change is left to take back
  * A refused call changes no guidance and no buffer.
  */
