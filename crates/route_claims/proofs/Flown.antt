@@ -2,9 +2,9 @@
 use mathlib.Core.Path.{_≡_, refl, sym, ap, subst, _∙_}
 use mathlib.Core.Bool.{Bool, true, false, cond, not, _&&_}
 use mathlib.Core.List.{List, [], _∷_, _++_}
-use Prim.Native.Nat.{ℕ, zero, suc, _+_, _-_, _≤_, _<_}
+use Prim.Native.Nat.{ℕ, _+_, _-_, _≤_}
 use native.Mathlib.Omega.{arith}
-use borrow.Author.Tests.{eqb-true, eqb-false, leb-true}
+use borrow.Author.Tests.{eqb-true, leb-true}
 use lib.Dec.{T, eqb, leb}
 use lib.ListN.{length}
 use lib.Ieee.{Float}
@@ -16,16 +16,14 @@ use Rattle.laws.specs.declared.types.FlightRegime.{FlightRegime}
 use Rattle.laws.specs.declared.types.VehicleState.{VehicleState}
 use Rattle.laws.specs.declared.types.WaypointCommand.{WaypointCommand}
 use Rattle.laws.specs.declared.types.ControlInput.the-variants as Input
-use Rattle.guidance.specs.Plane.{fresh, badTimeStep, badCap, allFinite, waypoint, obeyed, guided, refusalNumber}
+use Rattle.guidance.specs.Plane.{fresh, badTimeStep, badCap, allFinite, waypoint, obeyed, guided}
 use Rattle.guidance.specs.declared.plane.PlaneGuidance.{PlaneGuidance}
 use Rattle.guidance.specs.declared.plane.Guided.{Guided}
 use Rattle.claims.specs.Calls.{Call, Reply, answered, refused, perform, replies, after}
-use Rattle.claims.specs.Demand3.{Demand3}
 use Rattle.claims.proofs.Demand3 as proved
-use Rattle.routes.specs.Route.{isAccepted, settled, northEast, isNear, isPassed, numbered, meets, reached, wanted, waypointFor, guidedTo, routeCall, lentRefusal}
+use Rattle.routes.specs.Route.{isAccepted, settled, isNear, isPassed, numbered, meets, reached, wanted, guidedTo, routeCall, lentRefusal}
 use Rattle.routes.specs.declared.Point.{Point}
 use Rattle.routes.specs.declared.RouteCall.{RouteCall}
-use Rattle.routes.specs.declared.Flown.{Flown}
 use Rattle.route_claims.specs.Flights.{
   Lent,
   points,
@@ -57,7 +55,8 @@ either : (P : Guided → Type 0) (b : Bool) (x y : Guided) → P x → P y → P
 either P true x y p q = p
 either P false x y p q = q
 
-waypoint-keeps : (g : PlaneGuidance) (dt : Float) (r : FlightRegime) (w : WaypointCommand) (s : VehicleState) (cap : OptionF32) → Keeps g (guided g dt r (Input.Waypoint w) s cap)
+waypoint-keeps : (g : PlaneGuidance) (dt : Float) (r : FlightRegime) (w : WaypointCommand) (s : VehicleState) (cap : OptionF32)
+    → Keeps g (guided g dt r (Input.Waypoint w) s cap)
 unfolding guided obeyed waypoint
 waypoint-keeps g dt r w s cap =
     either (Keeps g) (badTimeStep dt) _ _ (λ e. refl)

@@ -1,18 +1,16 @@
 -- Flying a route that was loaded is the route call over its points. Assumes nothing.
-use mathlib.Core.Path.{_≡_, refl, sym, ap, _∙_}
-use mathlib.Core.Bool.{Bool, true, false, cond, not}
-use mathlib.Core.List.{List, [], _∷_, _++_}
-use Prim.Native.Nat.{ℕ, _+_, _-_, _*_, _≤_, _<_}
+use mathlib.Core.Path.{_≡_, refl, sym}
+use mathlib.Core.Bool.{Bool, true, false, cond}
+use mathlib.Core.List.{List, _++_}
+use Prim.Native.Nat.{ℕ, _+_, _≤_}
 use native.Mathlib.Omega.{arith}
 use borrow.Author.Tests.{le-leb, leb-true, ne-eqb}
-use lib.Dec.{eqb, leb}
+use lib.Dec.{leb}
 use lib.ListN.{length, drop, length-append, length-drop}
 use lib.Ieee.{Float}
 use Rattle.fields.specs.Fields.{ones}
 use Rattle.guidance.specs.declared.plane.PlaneGuidance.{PlaneGuidance}
 use Rattle.route_records.specs.Record.{Route, mapRefusal, numberCount, RouteRead, refused, read, readRoute, answerTo, bufferTo, loadAnswer, loadBuffer}
-use Rattle.route_records.specs.Laws.{IsRoute}
-use Rattle.route_records.specs.declared.Loaded.{Loaded}
 use Rattle.route_records.specs.declared.Loaded.the-variants as answer
 use Rattle.route_records.proofs.RouteBack.{held}
 use Rattle.routes.specs.Route.{counted, lentRefusal, routeCall, fly}
