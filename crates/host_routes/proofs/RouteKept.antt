@@ -19,7 +19,7 @@ use Rattle.routes.specs.declared.Flown.{Flown}
 use Rattle.rights.specs.Rights.{may}
 use Rattle.rights.specs.declared.Deed.the-variants as deed
 use Rattle.host_answers.specs.Answer.{bare}
-use Rattle.host_routes.specs.Route.{routeOf, callOf, flownOf, runRoute, runRouteBy}
+use Rattle.host_routes.specs.Route.{routeOf, routeCallOf, flownOf, runRoute, runRouteBy}
 use Rattle.host_routes.specs.declared.route.RouteNumbers.{RouteNumbers}
 use Rattle.host_routes.specs.declared.route.RouteRan.{RouteRan}
 use Rattle.host_answers.proofs.Kept.{guided-keeps}
@@ -45,9 +45,9 @@ either-ran false x y p q = q
 route-keeps : (g : PlaneGuidance) (k : RouteNumbers) (numbers : List Float) → settingsOf (runRoute g k numbers .guidance) ≡ settingsOf g
 unfolding runRoute
 route-keeps g k numbers =
-    let o = fly g (routeOf k) numbers (callOf k) in
+    let o = fly g (routeOf k) numbers (routeCallOf k) in
     either-ran (ltb 1 (k .regime)) (record { guidance = g; answer = record { answer = bare 7 0 0; number = k .number } }) (flownOf o) refl
-    (fly-keeps g (routeOf k) numbers (callOf k))
+    (fly-keeps g (routeOf k) numbers (routeCallOf k))
 
 pub route-by-keeps : (g : PlaneGuidance) (caller : ℕ) (k : RouteNumbers) (numbers : List Float) → settingsOf (runRouteBy g caller k numbers .guidance) ≡ settingsOf g
 unfolding runRouteBy

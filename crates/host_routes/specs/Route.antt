@@ -31,8 +31,8 @@ loadedOf (loaded.Refused n) = record { refusal = n; number = 0; map = 0; next = 
 abbrev pub routeOf : RouteNumbers → Route
 routeOf k = record { map = k .map; number = k .number }
 
-unfoldable pub callOf : RouteNumbers → RouteCall
-callOf k = record {
+unfoldable pub routeCallOf : RouteNumbers → RouteCall
+routeCallOf k = record {
   dt = k .dt;
   regime = regimeOf (k .regime);
   state = record {
@@ -52,7 +52,7 @@ unfoldable pub runRoute : PlaneGuidance → RouteNumbers → List Float → Rout
 runRoute g k numbers =
     cond (ltb 1 (k .regime))
     (record { guidance = g; answer = record { answer = bare 7 0 0; number = k .number } })
-    (flownOf (fly g (routeOf k) numbers (callOf k)))
+    (flownOf (fly g (routeOf k) numbers (routeCallOf k)))
 
 -- ---- by a caller: "13: the caller lacks the right, before every other check"
 

@@ -123,7 +123,7 @@ fn route_of(k: RouteNumbers) -> Route
 }
 
 fn route_call_of(k: RouteNumbers) -> RouteCall
-    ensures { λ r. ⌜ r ≡ spec.callOf k ⌝ }
+    ensures { λ r. ⌜ r ≡ spec.routeCallOf k ⌝ }
 {
     let regime = regime_of(k.regime);
     let airspeed_mps = option_of(k.has_airspeed, k.airspeed_mps);

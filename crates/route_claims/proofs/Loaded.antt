@@ -1,23 +1,22 @@
 -- Flying a route that was loaded is the route call over its points. Assumes nothing.
-use mathlib.Core.Path.{_≡_, refl, sym, ap, _∙_}
-use mathlib.Core.Bool.{Bool, true, false, cond, not}
-use mathlib.Core.List.{List, [], _∷_, _++_}
-use Prim.Native.Nat.{ℕ, _+_, _-_, _*_, _≤_, _<_}
+use mathlib.Core.Path.{_≡_, refl, sym}
+use mathlib.Core.Bool.{Bool, true, false, cond}
+use mathlib.Core.List.{List, _++_}
+use Prim.Native.Nat.{ℕ, _+_, _≤_}
 use native.Mathlib.Omega.{arith}
 use borrow.Author.Tests.{le-leb, leb-true, ne-eqb}
-use lib.Dec.{eqb, leb}
+use lib.Dec.{leb}
 use lib.ListN.{length, drop, length-append, length-drop}
 use lib.Ieee.{Float}
 use Rattle.fields.specs.Fields.{ones}
 use Rattle.guidance.specs.declared.plane.PlaneGuidance.{PlaneGuidance}
 use Rattle.route_records.specs.Record.{Route, mapRefusal, numberCount, RouteRead, refused, read, readRoute, answerTo, bufferTo, loadAnswer, loadBuffer}
-use Rattle.route_records.specs.Laws.{IsRoute}
-use Rattle.route_records.specs.declared.Loaded.{Loaded}
 use Rattle.route_records.specs.declared.Loaded.the-variants as answer
 use Rattle.route_records.proofs.RouteBack.{held}
-use Rattle.routes.specs.Route.{pointsOf, counted, lentRefusal, routeCall, fly}
+use Rattle.routes.specs.Route.{counted, lentRefusal, routeCall, fly}
 use Rattle.routes.specs.declared.RouteCall.{RouteCall}
 use Rattle.routes.proofs.PointsLaw.{points-long, lent-gives}
+use Rattle.route_claims.specs.Flights.{Lent, points}
 use Rattle.route_claims.specs.Claim.{Flies}
 
 -- numbers that are at least as many as a route's
@@ -51,17 +50,21 @@ counted-is : (points n : ℕ) → 1 ≤ n → n ≤ points + 1 → counted point
 unfolding counted
 counted-is points n h l = rw (ne-eqb n 0 (λ (z : n ≡ 0). omega arith), le-leb n (points + 1) l)
 
-module _ (g : PlaneGuidance) (map n : ℕ) (numbers : List Float) (k : RouteCall) (e : lentRefusal map (length numbers) ≡ 0) where
-  fly-is : 1 ≤ n → n ≤ ones 64 map + 1 → fly g (record { map = map; number = n }) numbers k ≡ routeCall g (pointsOf (ones 64 map) numbers) n k
+module _ (r : Lent) (ok : lentRefusal (r .map) (length (r .numbers)) ≡ 0) where
+  points-are : length (points r) ≡ ones 64 (r .map)
+  points-are = points-long (ones 64 (r .map)) (r .numbers)
+
+  pub some-points : (1 ≤ length (points r)) × (length (points r) ≤ 62)
+  some-points = let some = lent-gives (r .map) (length (r .numbers)) 0 (sym ok) (omega arith) in (rw points-are (some .0), rw points-are (some .2))
+
+  pub fly-is : (g : PlaneGuidance) (n : ℕ) (k : RouteCall) → 1 ≤ n → n ≤ length (points r) + 1
+      → fly g (record { map = r .map; number = n }) (r .numbers) k ≡ routeCall g (points r) n k
   unfolding fly routeCall
-  fly-is h l = rw (e, counted-is (ones 64 map) n h l)
+  fly-is g n k h l = rw (ok, counted-is (ones 64 (r .map)) n h (omega (arith, points-are)))
 
 pub flies : Flies
 flies =
     record {
       loads = loads-whole;
-      flies = λ g map n numbers k e.
-          let long = points-long (ones 64 map) numbers in
-          let some = lent-gives map (length numbers) 0 (sym e) (omega arith) in
-          (rw long (some .0), rw long (some .2), λ (h : 1 ≤ n) (l : n ≤ length (pointsOf (ones 64 map) numbers) + 1). fly-is g map n numbers k e h (omega (arith, long)));
+      flies = λ g r n k ok. (some-points r ok .0, some-points r ok .1, fly-is r ok g n k);
     }

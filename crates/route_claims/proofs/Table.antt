@@ -8,11 +8,12 @@ use Rattle.fields.specs.Bytes.{numberAt}
 use Rattle.fields.specs.Fields.{ones}
 use Rattle.route_records.specs.Record.{numberCount, oneMap, twoMaps, readMaps, readPoints, numbersAt, allFinite, readRoute}
 use Rattle.route_records.specs.Older.{olderMapRefusal, olderReadRoute}
-use Rattle.routes.specs.Route.{pointAt, noPoint, numbered, isNear, isPassed, meets}
+use Rattle.routes.specs.Route.{pointAt, pointsOf, noPoint, numbered, isNear, isPassed, meets}
 use Rattle.route_claims.specs.Table.{found, wanted, TestTable, outcomes, expected, LoadTable, OlderTable}
 
 pub test-table : TestTable
-unfolding found wanted meets isNear isPassed numbered noPoint pointAt norm dot rootOf ofBits add sub mul le isNan
+unfolding found wanted meets isNear isPassed numbered noPoint pointAt pointsOf norm dot rootOf ofBits add sub mul le isNan
+    readRoute readMaps twoMaps readPoints numberCount numbersAt allFinite numberAt ones finite
 test-table = refl
 
 pub load-table : LoadTable

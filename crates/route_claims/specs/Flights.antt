@@ -1,13 +1,23 @@
 -- Lists of calls on a guidance under a route, from one loading to the next. Definitions only.
 use mathlib.Core.List.{List, [], _∷_}
 use Prim.Native.Nat.{ℕ}
+use lib.Ieee.{Float}
 use Rattle.laws.specs.declared.types.ControlInput.the-variants as Input
 use Rattle.guidance.specs.declared.plane.PlaneGuidance.{PlaneGuidance}
 use Rattle.claims.specs.Calls.{Call, guide, Reply, answered, Outcome, perform}
-use Rattle.routes.specs.Route.{waypointFor, wanted, routeCall}
+use Rattle.fields.specs.Fields.{ones}
+use Rattle.routes.specs.Route.{pointsOf, waypointFor, wanted, fly}
 use Rattle.routes.specs.declared.Point.{Point}
 use Rattle.routes.specs.declared.RouteCall.{RouteCall}
 use Rattle.routes.specs.declared.Flown.{Flown}
+
+-- a route as loading leaves it: its map, and the lent numbers that hold its points
+pub record Lent : Type 0 where
+  pub map : ℕ
+  pub numbers : List Float
+
+abbrev pub points : Lent → List Point
+points r = pointsOf (ones 64 (r .map)) (r .numbers)
 
 -- a route call, or one of demand 3's calls
 pub data Step : Type 0 where
@@ -30,10 +40,10 @@ flownBy o = record { reply = answered (o .answer); next = record { guidance = o 
 abbrev pub numberKept : ℕ → Outcome → Stepped
 numberKept n o = record { reply = o .reply; next = record { guidance = o .next; number = n } }
 
--- one call on a flight along these points: what the contracts of the route call and of demand 3's calls say
-unfoldable pub step : List Point → Flight → Step → Stepped
-step ps f (route k) = flownBy (routeCall (f .guidance) ps (f .number) k)
-step ps f (other k) = numberKept (f .number) (perform (f .guidance) k)
+-- one call on a flight along a route: what the contracts of the route call and of demand 3's calls say
+unfoldable pub step : Lent → Flight → Step → Stepped
+step r f (route k) = flownBy (fly (f .guidance) (record { map = r .map; number = f .number }) (r .numbers) k)
+step r f (other k) = numberKept (f .number) (perform (f .guidance) k)
 
 -- "The number starts at 1 on loading"; a route is loaded beside whatever guidance there is
 abbrev pub loaded : PlaneGuidance → Flight
@@ -41,20 +51,20 @@ loaded g = record { guidance = g; number = 1 }
 
 -- ---- a run: each call gets the flight that the one before it left
 
-unfoldable pub flightAfter : List Point → Flight → List Step → Flight
-flightAfter ps f [] = f
-flightAfter ps f (k ∷ ks) = flightAfter ps (step ps f k .next) ks
+unfoldable pub flightAfter : Lent → Flight → List Step → Flight
+flightAfter r f [] = f
+flightAfter r f (k ∷ ks) = flightAfter r (step r f k .next) ks
 
-unfoldable pub flightReplies : List Point → Flight → List Step → List Reply
-flightReplies ps f [] = []
-flightReplies ps f (k ∷ ks) = step ps f k .reply ∷ flightReplies ps (step ps f k .next) ks
+unfoldable pub flightReplies : Lent → Flight → List Step → List Reply
+flightReplies r f [] = []
+flightReplies r f (k ∷ ks) = step r f k .reply ∷ flightReplies r (step r f k .next) ks
 
 -- ---- a route call counted as the guide call that it makes
 
-abbrev pub made : List Point → Flight → Step → Call
-made ps f (route k) = guide (k .dt) (k .regime) (Input.Waypoint (waypointFor ps (wanted (f .guidance) ps (f .number) k))) (k .state) (k .cap)
-made ps f (other k) = k
+abbrev pub made : Lent → Flight → Step → Call
+made r f (route k) = guide (k .dt) (k .regime) (Input.Waypoint (waypointFor (points r) (wanted (f .guidance) (points r) (f .number) k))) (k .state) (k .cap)
+made r f (other k) = k
 
-unfoldable pub allMade : List Point → Flight → List Step → List Call
-allMade ps f [] = []
-allMade ps f (k ∷ ks) = made ps f k ∷ allMade ps (step ps f k .next) ks
+unfoldable pub allMade : Lent → Flight → List Step → List Call
+allMade r f [] = []
+allMade r f (k ∷ ks) = made r f k ∷ allMade r (step r f k .next) ks

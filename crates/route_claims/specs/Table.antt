@@ -7,9 +7,10 @@ use lib.ListN.{length, replicate}
 use lib.Ieee.{Float, nan}
 use Rattle.arithmetic.specs.Constants.{f32, n0}
 use Rattle.arithmetic.specs.declared.vector.Vec2.{Vec2}
+use Rattle.fields.specs.Fields.{ones}
 use Rattle.route_records.specs.Record.{RouteRead, refused, read, readRoute}
 use Rattle.route_records.specs.Older.{olderReadRoute}
-use Rattle.routes.specs.Route.{meets}
+use Rattle.routes.specs.Route.{pointsOf, meets}
 use Rattle.routes.specs.declared.Point.{Point}
 
 -- a point at the height 0 with the cruise speed 0, and a position
@@ -21,6 +22,9 @@ position north east = record { x = north; y = east }
 
 abbrev pub hundred : Float
 hundred = f32 0x42c80000  -- 100
+
+abbrev pub hundredBytes : List ℕ
+hundredBytes = 0 ∷ 0 ∷ 200 ∷ 66 ∷ []
 
 abbrev pub minusHundred : Float
 minusHundred = f32 0xc2c80000  -- -100
@@ -60,6 +64,18 @@ farPair = point minusLarge n0 ∷ point large n0 ∷ []
 abbrev pub homePair : List Point
 homePair = point minusHundred minusHundred ∷ point n0 n0 ∷ []
 
+-- a route with gaps in both maps, bit 0 of the first and bits 0 and 30 of the second: the origin, 100 m north, and 100 m east of that
+abbrev pub gappedRecord : List ℕ
+gappedRecord =
+    1 ∷ 0 ∷ 0 ∷ 128 ∷ 1 ∷ 0 ∷ 0 ∷ 64 ∷ replicate 16 0 ++ (hundredBytes ++ replicate 12 0) ++ (hundredBytes ++ hundredBytes ++ replicate 8 0)
+
+abbrev pub pointsRead : RouteRead → List Point
+pointsRead (refused n) = []
+pointsRead (read r next) = pointsOf (ones 64 (r .map)) (r .numbers)
+
+abbrev pub gapped : List Point
+gapped = pointsRead (readRoute gappedRecord 0)
+
 pub record Case : Type 0 where
   pub points : List Point
   pub number : ℕ
@@ -94,9 +110,16 @@ cases =
     -- a leg that overflows: infinity times 0 is NaN, infinity times what is left passes
     row farPair 2 large n0 false ∷
     row farPair 2 infinity n0 true ∷
+    -- gaps in the map, the points in their order: at the first, abeam of the second and short of it, abeam of the third and short of it
+    row gapped 1 n0 n0 true ∷
+    row gapped 2 hundred minusHundred true ∷
+    row gapped 2 n0 hundred false ∷
+    row gapped 3 n0 hundred true ∷
+    row gapped 3 hundred minusHundred false ∷
     -- one past the last point it stays
     row single 2 n0 n0 false ∷
-    row pair 3 hundred n0 false ∷ []
+    row pair 3 hundred n0 false ∷
+    row gapped 4 hundred hundred false ∷ []
 
 unfoldable pub found : List Case → List Bool
 found [] = []

@@ -2,18 +2,20 @@
 use mathlib.Core.Path.{_≡_, refl, sym, ap, _∙_}
 use mathlib.Core.Bool.{Bool, true, false, cond, not}
 use mathlib.Core.List.{List, _++_, append-assoc}
-use Prim.Native.Nat.{ℕ, _+_, _-_, _/_, _%_, _<_, _≤_}
+use Prim.Native.Nat.{ℕ, zero, suc, _+_, _-_, _/_, _%_, _<_, _≤_, _^_}
 use native.Mathlib.Omega.{arith}
+use native.Mathlib.Nat.{zero-add, suc-add, pow-succ', div-div-eq-div-mul}
 use borrow.Author.Tests.{le-leb, lt-leb, lt-ltb, le-ltb, ltb-true, ltb-false, eqb-false}
 use borrow.Rule.Slice.PartMut.{putMid}
 use lib.Dec.{eqb, ltb}
 use lib.ListN.{length, drop, take, length-append, length-drop}
 use lib.Seq.{drop-drop}
 use Rattle.fields.specs.Bytes.{numberAt, bytesOf}
+use Rattle.fields.specs.Fields.{ones}
 use Rattle.fields.proofs.NumberLaw.{bytes-long, number-back, drop-bytes}
-use Rattle.fields.proofs.FieldLaw.{rest-is, put-front, put-after}
+use Rattle.fields.proofs.FieldLaw.{ones-low, ones-below, rest-is, put-front, put-after}
 use Rattle.route_records.specs.declared.Loaded.the-variants as loaded
-use Rattle.route_records.specs.Record.{mapRefusal, oneMap, twoMaps, readMaps, mapsBytes}
+use Rattle.route_records.specs.Record.{mapRefusal, oneMap, joined, twoMaps, readMaps, mapsBytes}
 
 -- ---- a map that is not refused
 
@@ -39,6 +41,26 @@ either {A} m f g = go (ltb m 2147483648) refl
     go : (b : Bool) → ltb m 2147483648 ≡ b → A
     go true e = f (ltb-true m 2147483648 e)
     go false e = g (ltb-false m 2147483648 e)
+
+-- ---- two maps as one
+
+-- the n lowest bits, and the d above them
+ones-apart : (n d m : ℕ) → ones (n + d) m ≡ ones n m + ones d (m / 2 ^ n)
+unfolding ones
+ones-apart zero d m = let same : m / 1 ≡ m = omega arith in rw (same, zero-add d) (sym (zero-add (ones d m)))
+ones-apart (suc n) d m =
+    let above : m / 2 / 2 ^ n ≡ m / 2 ^ suc n = rw (pow-succ' 2 n) (div-div-eq-div-mul m 2 (2 ^ n)) in
+    ap (λ (k : ℕ). ones k m) (suc-add n d) ∙ rw (ones-apart n d (m / 2), above) (omega arith)
+
+pub maps-apart : (first second : ℕ) → (joined first second % 2 ^ 31 ≡ first % 2 ^ 31) × (joined first second / 2 ^ 31 ≡ second)
+maps-apart first second = (omega arith, omega arith)
+
+pub maps-count : (first second : ℕ) → second < 2 ^ 31 → ones 64 (joined first second) ≡ ones 31 first + ones 31 second
+maps-count first second h =
+    let m = joined first second in
+    let apart = maps-apart first second in
+    let low : ones 31 m ≡ ones 31 first = sym (ones-low 31 0 m) ∙ ap (ones 31) (apart .0) ∙ ones-low 31 0 first in
+    ones-apart 31 33 m ∙ rw (low, apart .1, ones-below 31 2 second h)
 
 -- ---- reading
 

@@ -42,7 +42,20 @@ use Rattle.route_records.specs.Record.{
 }
 use Rattle.route_records.specs.Laws.{IsRoute, RouteLaws, AreBytes, RouteKept}
 use Rattle.route_records.proofs.NumbersLaw.{numbers-long}
-use Rattle.route_records.proofs.MapsLaw.{map-is, either, one-map-bytes, two-map-bytes, one-map-long, two-maps-long, room, alone-is, first-is, second-is}
+use Rattle.route_records.proofs.MapsLaw.{
+  map-is,
+  either,
+  maps-apart,
+  maps-count,
+  one-map-bytes,
+  two-map-bytes,
+  one-map-long,
+  two-maps-long,
+  room,
+  alone-is,
+  first-is,
+  second-is,
+}
 use Rattle.route_records.proofs.RecordLaw.{record-size}
 
 -- ---- a map that is not refused
@@ -344,14 +357,23 @@ longest-is : IsRoute Longest
 unfolding mapRefusal numberCount ones
 longest-is = record { map = refl; long = length-replicate 248 n0; held = all-held 248; finite = all-finite 248 }
 
+-- the maps and the numbers of a route that is not refused
+size-le : (r : Route) → mapRefusal (r .map) ≡ 0 → length (mapsBytes (r .map)) + 4 * numberCount (r .map) ≤ 1000
+size-le r ok =
+    either (r .map)
+    (λ (h : r .map < 2147483648). omega (arith, one-map-long (r .map) h, count-le (r .map) ok))
+    (λ (h : 2147483648 ≤ r .map). omega (arith, two-maps-long (r .map) h, count-le (r .map) ok))
+
+stepped : (s : List ℕ) (at : ℕ) (r : Route) (next : ℕ) → readRoute s at ≡ read r next → next ≤ at + 1000
+stepped s at r next e = let w = whole s at r next e in omega (arith, w .maps .place, w .ends, size-le r (w .maps .ok))
+
 pub route-kept : RouteKept
 route-kept =
     record {
-      apart = λ first second. (omega arith, omega arith);
-      longest = λ r f.
-          either (r .map)
-          (λ (h : r .map < 2147483648). omega (arith, record-size r, f .long, one-map-long (r .map) h, count-le (r .map) (f .map)))
-          (λ (h : 2147483648 ≤ r .map). omega (arith, record-size r, f .long, two-maps-long (r .map) h, count-le (r .map) (f .map)));
+      apart = maps-apart;
+      counts = maps-count;
+      longest = λ r f. omega (arith, record-size r, f .long, size-le r (f .map));
+      stepped = stepped;
       reached = (Longest, longest-is, omega (arith, record-size Longest, length-replicate 248 n0, two-maps-long 4611686018427387903 (omega arith)));
       bytes = λ s at r next h e. same-bytes s at r next e h;
     }

@@ -2,9 +2,10 @@
 use mathlib.Core.Path.{_≡_}
 use mathlib.Core.Bool.{true}
 use mathlib.Core.List.{List, [], _∷_, _++_}
-use Prim.Native.Nat.{ℕ, _-_, _/_, _%_, _≤_, _<_, _^_}
+use Prim.Native.Nat.{ℕ, _+_, _-_, _/_, _%_, _≤_, _<_, _^_}
 use lib.ListN.{length, take, drop}
 use lib.Ieee.{Float}
+use Rattle.fields.specs.Fields.{ones}
 use Rattle.fields.specs.Numbers.{AreF32}
 use Rattle.fields.specs.Laws.{Laws}
 use Rattle.fields.specs.declared.Written.the-variants as written
@@ -40,11 +41,13 @@ unfoldable pub AreBytes : List ℕ → Type 0
 AreBytes [] = Unit {0}
 AreBytes (b ∷ bs) = (b < 256) × AreBytes bs
 
--- What a route adds to these: its map has the first map's points and above them the second's; 4 + 4 + 62 · 16 bytes are the most, which a
--- route reaches; and writing what was read gives the bytes that were read.
+-- What a route adds to these: its map has the first map's points and above them the second's, as many as both have; 4 + 4 + 62 · 16 bytes
+-- are the most, written or read, which a route reaches; and writing what was read gives the bytes that were read.
 pub record RouteKept : Type 0 where
   pub apart : (first second : ℕ) → (joined first second % 2 ^ 31 ≡ first % 2 ^ 31) × (joined first second / 2 ^ 31 ≡ second)
+  pub counts : (first second : ℕ) → second < 2 ^ 31 → ones 64 (joined first second) ≡ ones 31 first + ones 31 second
   pub longest : (r : Route) → IsRoute r → length (routeRecord r) ≤ 1000
+  pub stepped : (s : List ℕ) (at : ℕ) (r : Route) (next : ℕ) → readRoute s at ≡ read r next → next ≤ at + 1000
   pub reached : (r : Route) × IsRoute r × (length (routeRecord r) ≡ 1000)
   pub bytes : (s : List ℕ) (at : ℕ) (r : Route) (next : ℕ) → AreBytes s → readRoute s at ≡ read r next → routeRecord r ≡ take (next - at) (drop at s)
 

@@ -1,4 +1,4 @@
-use Rattle.host_routes.specs.Route.{callOf}
+use Rattle.host_routes.specs.Route.{routeCallOf}
 use borrow.Author.Needs.{needs}
 use Rattle.host_routes.proofs.route.route_call_of.Statement.{statement}
 use Rattle.host_routes.proofs.route.route_call_of.Tie as tie
@@ -13,7 +13,7 @@ option-of-requires-2 : tie.Need-option-of-requires-2
 option-of-requires-2 c κs = search needs
 
 returns : tie.Need-returns
-unfolding callOf
+unfolding routeCallOf
 returns c =
     let calls = c .before .before in
     rw (calls .option-of2 .ensures, calls .before .option-of .ensures, calls .before .before .regime-of .ensures)
