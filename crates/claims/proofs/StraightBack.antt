@@ -1,4 +1,4 @@
--- Document 02, K5: at a tie straight back the roll is to the right. Assumes nothing.
+-- Document 02, K5: at a tie straight back the angle steered and the roll are to the right. Assumes nothing.
 use Prim.Native.Nat.{ℕ}
 use mathlib.Core.Path.{_≡_, refl, sym, subst}
 use mathlib.Core.Bool.{Bool, true, false, cond, not, _&&_, _||_}

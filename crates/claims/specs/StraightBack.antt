@@ -65,13 +65,17 @@ SteersRight =
     steeredRad position velocity point direction distance
     ≡ cond (isNan (capture (cross direction (difference position point)) distance)) nan fracPi2
 
+-- The capture angle is NaN exactly where the distance off the line over the L1 distance is.
+abbrev pub NoCapture : Type 0
+NoCapture = (crossTrack distance : Float) → isNan (capture crossTrack distance) ≡ isNan (crossTrack /ᶠ distance)
+
 -- ---- what leaves the roll a zero
 
 -- max_bank_rad is a zero
 abbrev pub noBank : PlaneGuidanceConfig → Bool
 noBank c = Ieee.eq (c .«max_bank_rad») n0
 
--- the angle back toward the leg, which is NaN where the distance off it over the L1 distance is
+-- the angle back toward the leg
 abbrev pub captureAngle : PlaneGuidanceConfig → WaypointCommand → VehicleState → Vec2 → Float
 captureAngle c w s direction =
     capture (cross direction (difference (position s) (w .«position_m»)))
