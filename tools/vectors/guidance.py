@@ -49,7 +49,13 @@ FIGURES = {
     # document 02, K5: straight back turns right, at the default bank of 45 degrees, for either zero
     **{("ties-by-hand", n): "track fallback 3f490fdb 00000000 3f000000" for n in (*range(2, 13), 32, 33, 34, 35, 38)},
     **{("ties-by-hand", n): "loiter fallback 3f490fdb 00000000 3f000000" for n in (36, 37)},
-    ("ties-by-hand", 40): "track fallback 00000000 00000000 3f000000",  # position NaN
+    # no capture angle, since the distance off the line is NaN: the acceleration is not finite, which the law makes 0
+    **{("ties-by-hand", n): "track fallback 00000000 00000000 3f000000 7fc00000" for n in range(40, 50)},
+    # infinitely far off the line: the capture angle is FRAC_PI_4
+    **{("ties-by-hand", n): "track fallback 3f490fdb 00000000 3f000000 7f800000" for n in (50, 51)},
+    # an L1 distance of 0
+    ("settings", 267): "track fallback 00000000",
+    ("settings", 268): "track fallback 00000000",
     ("ties-by-hand", 27): "loiter fallback 3f490fdb 00000000 3f000000",  # loiter at velocity (1e30, 0) from (100, 7)
     ("takings-back", 28): "refused 4",  # a waypoint that the changed setting refuses
     ("takings-back", 30): "idle energy 00000000 bd57f532 3f19d67b",  # after it and the taking back

@@ -9,6 +9,7 @@ pub mod Undone
 mod Spans
 pub mod Clamps
 pub mod StallGuard
+pub mod Capture
 pub mod StraightBack
 mod Variants
 mod GuardVariants

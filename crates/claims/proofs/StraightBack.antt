@@ -1,20 +1,22 @@
--- Document 02, K5: at a tie straight back the roll is to the right. Assumes nothing.
+-- Document 02, K5: at a tie straight back the angle steered and the roll are to the right. Assumes nothing.
 use Prim.Native.Nat.{ℕ}
 use mathlib.Core.Path.{_≡_, refl, sym, subst}
 use mathlib.Core.Bool.{Bool, true, false, cond, not, _&&_, _||_}
 use lib.Dec.{T}
-use lib.Ieee.{Float, binary32, fits, lt, le}
-use Rattle.arithmetic.specs.Constants.{_/ᶠ_, n0}
-use Rattle.arithmetic.specs.Order.{finite}
+use lib.Ieee.{Float, nan, binary32, fits, isNan, neg, lt, le, ofBits, sub}
+use Rattle.arithmetic.specs.Constants.{_-ᶠ_, _/ᶠ_, n0, fracPi2}
+use Rattle.arithmetic.specs.Order.{clamp, finite}
+use Rattle.arithmetic.specs.Vector.{cross}
 use Rattle.arithmetic.specs.declared.vector.Vec2.{Vec2}
-use Rattle.arithmetic.proofs.Bounds.{and-left, and-right, le-of-lt, zero-or-above}
+use Rattle.arithmetic.proofs.Bounds.{and-left, and-right, le-of-lt, nan-is, zero-or-above}
 use Rattle.laws.specs.Config.{validate}
-use Rattle.laws.specs.Math.{clampSymmetric}
+use Rattle.laws.specs.Math.{limitOrZero, clampSymmetric}
 use Rattle.laws.specs.Types.{gravity}
-use Rattle.laws.specs.Navigation.{l1, bankForAccel, trackAccel, loiterAccel, lateralAccel}
+use Rattle.laws.specs.Navigation.{difference, l1, capture, course, steeredRad, bankForAccel, trackAccel, loiterAccel, lateralAccel}
 use Rattle.laws.specs.declared.config.PlaneGuidanceConfig.{PlaneGuidanceConfig}
 use Rattle.laws.proofs.Validated.{valid-field}
 use Rattle.laws.proofs.Bank.{bank-sign, bank-from-0, clamped-from-0, clamped-sign}
+use Rattle.laws.proofs.StraightBack as Laws
 use Rattle.laws.proofs.StraightBack.{leg-right, leg-from-0, tangent-right}
 use Rattle.laws.specs.declared.types.OptionF32.{OptionF32}
 use Rattle.laws.specs.declared.types.ControlInput.the-variants as Input
@@ -25,7 +27,25 @@ use Rattle.guidance.specs.Plane.{rollOf, refusal, badTimeStep, badCap, allFinit
 use Rattle.guidance.specs.declared.plane.PlaneGuidance.{PlaneGuidance}
 use Rattle.guidance.specs.declared.plane.Guided.{Guided}
 use Rattle.claims.specs.StraightBack.{position, velocity, noBank, noTurn, TieOnLeg, TieOnTangent, TurnsRight, AnswerTurnsRight}
-use Rattle.claims.specs.StraightBack.{RollsRight, LegTurnsRight, TangentTurnsRight}
+use Rattle.claims.specs.StraightBack.{SteersRight, RollsRight, LegTurnsRight, TangentTurnsRight}
+
+-- ---- the angle steered
+
+no-angle : (x : Float) → clampSymmetric (neg nan -ᶠ x) fracPi2 ≡ nan
+unfolding clampSymmetric limitOrZero clamp neg sub lt le ofBits
+no-angle x = refl
+
+pub steers-right : SteersRight
+steers-right position velocity point direction distance straight = go (isNan captured) refl
+  where
+    captured : Float
+    captured = capture (cross direction (difference position point)) distance
+
+    go : (b : Bool) → isNan captured ≡ b → steeredRad position velocity point direction distance ≡ cond b nan fracPi2
+    go true h = rw (nan-is captured h) (no-angle (course direction velocity))
+    go false h = Laws.steers-right position velocity point direction distance straight h
+
+-- ---- the roll
 
 neither : (a b : Bool) → not a && not b ≡ not (a || b)
 neither true b = refl

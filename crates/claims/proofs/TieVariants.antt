@@ -3,7 +3,7 @@
 use mathlib.Core.Path.{_≡_, refl}
 use mathlib.Core.Bool.{Bool, true, false, not}
 use mathlib.Core.List.{List, [], _∷_}
-use lib.Ieee.{Float, nan, isNan, neg, ofBits, lt, le, eq, add, sub, mul, div}
+use lib.Ieee.{Float, nan, inf, isNan, neg, ofBits, lt, le, eq, add, sub, mul, div}
 use Rattle.arithmetic.specs.Constants.{f32, _/ᶠ_, n0, n1}
 use Rattle.arithmetic.specs.Order.{clamp, finite, size}
 use Rattle.arithmetic.specs.Root.{rootOf}
@@ -59,8 +59,9 @@ flying north vn ve = record {
   «airspeed_mps» = Number.None;
 }
 
-abbrev to : OptionVec2 → WaypointCommand
-to leg = record { «position_m» = record { x = n0; y = n0 }; «velocity_mps» = leg; «altitude_m» = n0; «cruise_speed_mps» = n0 }
+-- to a point at (north, 0)
+abbrev to : Float → OptionVec2 → WaypointCommand
+to north leg = record { «position_m» = record { x = north; y = n0 }; «velocity_mps» = leg; «altitude_m» = n0; «cruise_speed_mps» = n0 }
 
 -- north, and 16 m/s straight back
 abbrev north : Vec2
@@ -69,19 +70,22 @@ north = record { x = n1; y = n0 }
 abbrev back : Float → VehicleState
 back at = flying at (f32 0xc1800000) n0
 
-on-leg : (at : Float) → TieOnLeg (to (Leg.Some north)) (back at) north
+on-leg : (point at : Float) → TieOnLeg (to point (Leg.Some north)) (back at) north
 unfolding finiteLeg allFinite finite normalise norm dot cross rootOf noCourse isNan ofBits lt le eq add sub mul div
-on-leg at = record { leg = north; present = refl; normalised = refl; under-way = refl; straight-back = refl }
+on-leg point at = record { leg = north; present = refl; normalised = refl; under-way = refl; straight-back = refl }
 
 -- whether the roll is above 0; then whether max_bank_rad is a zero, the capture angle NaN, the acceleration not finite, and a zero over gravity
-abbrev told : PlaneGuidanceConfig → Float → List Bool
-told c at =
+abbrev told : PlaneGuidanceConfig → Float → Float → List Bool
+told c point at =
+    let w = to point (Leg.Some north) in
     let s = back at in
-    lt n0 (rollOf c (to (Leg.Some north)) s) ∷ noBank c ∷ isNan (captureAngle c (to (Leg.Some north)) s north) ∷ not (finite (quarterTurn c s))
-    ∷ eq (quarterTurn c s /ᶠ gravity) n0 ∷ []
+    lt n0 (rollOf c w s) ∷ noBank c ∷ isNan (captureAngle c w s north) ∷ not (finite (quarterTurn c s)) ∷ eq (quarterTurn c s /ᶠ gravity) n0 ∷ []
 
 abbrev huge : Float
 huge = f32 0x7e967699  -- 1e38
+
+abbrev far : Float
+far = f32 0x7f61b1e6  -- 3e38
 
 abbrev tiny : Float
 tiny = f32 0x0da24260  -- 1e-30
@@ -90,19 +94,22 @@ all-valid : (validate (with bank45 usual) ≡ 0) × (validate (with n0 usual) �
 unfolding validate firstFailing default tecsDefault finite ofBits lt le neg
 all-valid = (refl, refl, refl, refl)
 
--- to the right; then max_bank_rad 0, a position that is NaN, a damping of 1e38, one of 1e-30
+-- to the right; then max_bank_rad 0; a position that is NaN, one infinitely far north, and finite ones whose difference overflows; a
+-- damping of 1e38, one of 1e-30
 each-alone :
-    (told (with bank45 usual) n0 ≡ true ∷ false ∷ false ∷ false ∷ false ∷ [])
-    × (told (with n0 usual) n0 ≡ false ∷ true ∷ false ∷ false ∷ false ∷ [])
-    × (told (with bank45 usual) nan ≡ false ∷ false ∷ true ∷ false ∷ false ∷ [])
-    × (told (with bank45 huge) n0 ≡ false ∷ false ∷ false ∷ true ∷ false ∷ [])
-    × (told (with bank45 tiny) n0 ≡ false ∷ false ∷ false ∷ false ∷ true ∷ [])
+    (told (with bank45 usual) n0 n0 ≡ true ∷ false ∷ false ∷ false ∷ false ∷ [])
+    × (told (with n0 usual) n0 n0 ≡ false ∷ true ∷ false ∷ false ∷ false ∷ [])
+    × (told (with bank45 usual) n0 nan ≡ false ∷ false ∷ true ∷ false ∷ false ∷ [])
+    × (told (with bank45 usual) n0 (inf false) ≡ false ∷ false ∷ true ∷ false ∷ false ∷ [])
+    × (told (with bank45 usual) (neg far) far ≡ false ∷ false ∷ true ∷ false ∷ false ∷ [])
+    × (told (with bank45 huge) n0 n0 ≡ false ∷ false ∷ false ∷ true ∷ false ∷ [])
+    × (told (with bank45 tiny) n0 n0 ≡ false ∷ false ∷ false ∷ false ∷ true ∷ [])
 unfolding rollOf lateralAccel finiteLeg allFinite trackAccel trackBy trackAlong l1 capture course bankForAccel clampSymmetric limitOrZero
     clamp sine arcsine arctangent arctangentOfSize part series size finite normalise norm dot cross rootOf noCourse default tecsDefault
     isNan ofBits lt le eq neg add sub mul div
-each-alone = (refl, refl, refl, refl, refl)
+each-alone = (refl, refl, refl, refl, refl, refl, refl)
 
 -- 100 m north of a loiter's centre, 16 m/s west: its tangent leads east
-on-tangent : TieOnTangent (to Leg.None) (flying (f32 0x42c80000) n0 (f32 0xc1800000)) (record { x = neg n0; y = n1 })
+on-tangent : TieOnTangent (to n0 Leg.None) (flying (f32 0x42c80000) n0 (f32 0xc1800000)) (record { x = neg n0; y = n1 })
 unfolding finiteLeg normalise norm dot cross rootOf noCourse isNan neg ofBits lt le eq add sub mul div
 on-tangent = record { outward = north; no-leg = refl; off-centre = refl; normalised = refl; under-way = refl; straight-back = refl }

@@ -1,10 +1,10 @@
--- Document 02, K5: straight back the plane turns right. At a tie the roll of a waypoint is never below 0, and it is above 0 for every
--- valid configuration but for what is named here. Definitions only.
+-- Document 02, K5: straight back the plane turns right. At a tie the angle steered is FRAC_PI_2 to the right, the roll of a waypoint is
+-- never below 0, and it is above 0 for every valid configuration but for what is named here. Definitions only.
 use mathlib.Core.Path.{_≡_}
-use mathlib.Core.Bool.{Bool, true, false, not, _||_}
+use mathlib.Core.Bool.{Bool, true, false, cond, not, _||_}
 use lib.Dec.{T}
 use lib.Ieee as Ieee
-use lib.Ieee.{Float, binary32, isNan, fits}
+use lib.Ieee.{Float, nan, binary32, isNan, fits}
 use Rattle.arithmetic.specs.Constants.{_·ᶠ_, _/ᶠ_, n0, fracPi2}
 use Rattle.arithmetic.specs.Order.{finite}
 use Rattle.arithmetic.specs.Trigonometry.{sine}
@@ -13,7 +13,7 @@ use Rattle.arithmetic.specs.declared.vector.Vec2.{Vec2}
 use Rattle.arithmetic.specs.declared.vector.Normalised.the-variants.{Parts}
 use Rattle.laws.specs.Config.{validate}
 use Rattle.laws.specs.Types.{gravity}
-use Rattle.laws.specs.Navigation.{leastLeg, leastOffset, difference, rightOf, noCourse, l1, capture, tie, finiteLeg}
+use Rattle.laws.specs.Navigation.{leastLeg, leastOffset, difference, rightOf, noCourse, l1, capture, tie, steeredRad, finiteLeg}
 use Rattle.laws.specs.declared.config.PlaneGuidanceConfig.{PlaneGuidanceConfig}
 use Rattle.laws.specs.declared.types.OptionF32.{OptionF32}
 use Rattle.laws.specs.declared.types.OptionVec2.the-variants as Leg
@@ -55,13 +55,27 @@ pub record TieOnTangent (w : WaypointCommand) (s : VehicleState) (direction : Ve
   pub under-way : noCourse (norm (velocity s)) ≡ false
   pub straight-back : tie direction (velocity s) ≡ true
 
+-- ---- the angle steered
+
+-- At a tie, for a zero of either sign, it is FRAC_PI_2 to the right exactly, for every position, velocity, point, direction and L1
+-- distance, and so on a leg and on a loiter's tangent; it is NaN where the capture angle is, which is the one exception.
+abbrev pub SteersRight : Type 0
+SteersRight =
+    (position velocity point direction : Vec2) (distance : Float) → tie direction velocity ≡ true →
+    steeredRad position velocity point direction distance
+    ≡ cond (isNan (capture (cross direction (difference position point)) distance)) nan fracPi2
+
+-- The capture angle is NaN exactly where the distance off the line over the L1 distance is.
+abbrev pub NoCapture : Type 0
+NoCapture = (crossTrack distance : Float) → isNan (capture crossTrack distance) ≡ isNan (crossTrack /ᶠ distance)
+
 -- ---- what leaves the roll a zero
 
 -- max_bank_rad is a zero
 abbrev pub noBank : PlaneGuidanceConfig → Bool
 noBank c = Ieee.eq (c .«max_bank_rad») n0
 
--- the angle back toward the leg, which is NaN where the distance off it over the L1 distance is
+-- the angle back toward the leg
 abbrev pub captureAngle : PlaneGuidanceConfig → WaypointCommand → VehicleState → Vec2 → Float
 captureAngle c w s direction =
     capture (cross direction (difference (position s) (w .«position_m»)))

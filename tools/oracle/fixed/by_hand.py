@@ -55,7 +55,27 @@ def ties():
     add("straight back on a leg whose east part vanishes when it is normalised", leg=[3.0, 0x00000001], velocity=[-16.0, 0.0])
     add("no direction: the dot is 0", leg=[1e30, 0.0], velocity=[-16.0, 0.0])
     add("straight back, position NaN", leg=north, position=[0.0, NAN], velocity=[-16.0, 0.0])
-    return lines
+    return lines + no_capture()
+
+
+def no_capture():
+    """Straight back where the cross-track distance is NaN, which leaves no capture angle; and beside these, where it is only infinite."""
+    north, south_west = dict(leg=[1.0, 0.0], velocity=[-16.0]), dict(leg=[-1.0, -1.0], velocity=[11.0, 11.0])
+    east = dict(leg=[0.0, 1.0], velocity=[0.0, -16.0])
+    rows = [
+        ("position north NaN", dict(north, position=[NAN])),
+        ("waypoint north NaN", dict(north, point=[NAN])),
+        ("waypoint east NaN", dict(north, point=[0.0, NAN])),
+        ("infinitely far along a north leg: 0 times infinity", dict(north, position=[INFINITY])),
+        ("infinitely far along an east leg", dict(east, position=[0.0, INFINITY])),
+        ("a finite position and a finite waypoint whose difference along the leg overflows", dict(north, point=[-3e38], position=[3e38])),
+        ("position and waypoint both infinite to the north: their difference is NaN", dict(north, point=[INFINITY], position=[INFINITY])),
+        ("both infinite to the east", dict(north, point=[0.0, INFINITY], position=[0.0, INFINITY])),
+        ("a south-west leg, infinitely far north-east: infinity less infinity", dict(south_west, position=[INFINITY, INFINITY])),
+        ("a south-west leg, infinitely far north: the distance off it is infinite", dict(south_west, position=[INFINITY])),
+        ("a finite position and a finite waypoint whose difference across the leg overflows", dict(north, point=[0.0, -3e38], position=[0.0, 3e38])),
+    ]
+    return [f"{waypoint(**fields)} # straight back, {remark}" for remark, fields in rows]
 
 
 # Document 02's K1, by hand: the lateral law's name, what makes it so, and the call. 3f7fffff is the f32 below 1, 358637bd
@@ -245,6 +265,10 @@ def settings():
         lines += [f"01 {configuration(numbers)} # {remark}", energy, fallback]
     overflow = waypoint(cruise=1.0, airspeed=10.0, velocity=[0.0, 0.0, 3e38])
     lines += ["01 " + configuration({19: 0.0}), f"00 {overflow} # refused 4: the proportional thrust is NaN"]
+    lines.append(f"01 {configuration({9: 1e-30, 10: 1e-30})} # the L1 distance underflows to 0")
+    for position, remark in ((0.0, "on it: 0 over 0"), (5.0, "5 m off it: infinity")):
+        back = waypoint(leg=[1.0, 0.0], position=[0.0, position], velocity=[-16.0])
+        lines.append(f"00 {back} # straight back on a north leg, {remark}; the acceleration is not finite")
     return lines + ["01 " + DEFAULTS, energy, energy]
 
 
