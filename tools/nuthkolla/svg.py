@@ -51,6 +51,23 @@ def square(parent, css, x, y, size):
     return add(parent, "rect", css, x=float(x - size), y=float(y - size), width=2 * size, height=2 * size)
 
 
+HATCHING = 8  # between its lines, across the page
+
+
+def hatched(parent, css, box, **attributes):
+    """A frame, with slanting lines in it where there is room."""
+    left, top, right, bottom = box
+    add(parent, "rect", css, x=left, y=top, width=right - left, height=bottom - top, **attributes)
+    if right - left < HATCHING:
+        return
+    d, along = "", HATCHING * math.ceil((left + top) / HATCHING)
+    while along < right + bottom:
+        x, to_x = max(left, along - bottom), min(right, along - top)
+        d += f"M{short(float(x))},{short(float(along - x))}L{short(float(to_x))},{short(float(along - to_x))}"
+        along += HATCHING
+    add(parent, "path", "hatching", d=d)
+
+
 def head(parent, css, tip, way, size):
     """The head of an arrow: its tip, and the way that it points, of length 1."""
     (x, y), (dx, dy) = tip, way
