@@ -7,7 +7,7 @@ from typing import NamedTuple
 
 from nuthkolla.flight import LONGEST_STEP, in_force, off_scale, runs
 from nuthkolla.numbers import is_finite, value
-from nuthkolla.svg import Scale, add, cross, frame, hatched, label, line, path, square, steps, usual_span
+from nuthkolla.svg import Scale, add, cross, frame, hatched, label, line, paths, square, steps, usual_span
 from nuthkolla.words import of_calls
 
 STRIP_HEIGHT, STRIP_GAP = 112, 34
@@ -125,14 +125,12 @@ class Column:
 
 def draw_spans(page, column, top, bottom):
     """Grey where the answers were holds; a dotted line where a call was refused."""
-    held = lambda m: 1 if m.law == "hold" else None
-    for run in runs([m for m in column.flown if not m.refused], held):
-        first, last = column.time(run.steps[0][0]), column.time(run.end)
-        add(page, "rect", "span", x=first, y=top, width=max(last - first, 1.0), height=bottom - top)
-    for moment in column.flown:
-        if moment.refused:
-            x = column.time(moment.along)
-            line(page, "refused through", x, top, x, bottom)
+    held = runs([m for m in column.flown if not m.refused], lambda m: 1 if m.law == "hold" else None)
+    ends = [(column.time(run.steps[0][0]), column.time(run.end)) for run in held]
+    corners = [(first, max(last, first + 1.0)) for first, last in ends]
+    paths(page, "span", [[(first, top), (last, top), (last, bottom), (first, bottom)] for first, last in corners])
+    refused = [column.time(moment.along) for moment in column.flown if moment.refused]
+    paths(page, "refused through", [[(x, top), (x, bottom)] for x in refused])
 
 
 def draw_guard(page, column, top, bottom):
@@ -178,8 +176,8 @@ def draw_limits(page, strip, column, limits, scale):
     if not pairs:
         return
     for side in (0, 1):
-        for run in runs([m for m, _ in limits], lambda m: pairs.get(m.number, (None, None))[side]):
-            path(page, "limit", stairs(run, column, scale))
+        found = runs([m for m, _ in limits], lambda m: pairs.get(m.number, (None, None))[side])
+        paths(page, "limit", [stairs(run, column, scale) for run in found])
     low, high = list(pairs.values())[-1]
     if abs(scale(low) - scale(high)) < 14:
         end_label(page, column, scale(high), f"limits {low:.3g}, {high:.3g}{strip.unit}")
@@ -190,8 +188,7 @@ def draw_limits(page, strip, column, limits, scale):
 
 def draw_demand(page, strip, column, scale):
     found = runs([m for m in column.flown if m.call.kind != "prime"], lambda m: inside(strip.demand(m), scale))
-    for run in found:
-        path(page, "demand", stairs(run, column, scale))
+    paths(page, "demand", [stairs(run, column, scale) for run in found])
     if found:
         last = found[-1].steps[-1][1]
         end_label(page, column, scale(last), f"demand {last:.3g}{strip.unit}")
@@ -225,8 +222,8 @@ def draw_strip(page, strip, column, configuration, top):
         draw_guard(group, column, top, bottom)
     draw_limits(group, strip, column, limits, scale)
     draw_demand(group, strip, column, scale)
-    for run in runs(flown, lambda m: inside(strip.number(m), scale)):
-        path(group, f"line {strip.name}", stairs(run, column, scale))
+    found = runs(flown, lambda m: inside(strip.number(m), scale))
+    paths(group, f"line {strip.name}", [stairs(run, column, scale) for run in found])
     label(page, "ink", column.left, top - 9, strip.title + outside_words(numbers, scale))
     frame(page, "frame", box)
     return scale
