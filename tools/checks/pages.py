@@ -56,6 +56,12 @@ class Held:
         column = self.given["words"][name]
         return [column["table"][n] for (n,) in struct.iter_unpack("<H", base64.b64decode(column["at"]))]
 
+    def said(self):
+        """What is said of each call, put together of its parts as the page's script does."""
+        parts = {name: self.words(name) for name in self.names}
+        part = lambda name, n: str(n + 1) if name == "number" else parts[name][n]
+        return [re.sub(r"@(\w+)@", lambda found: part(found.group(1), n), told) for n, told in enumerate(parts["said"])]
+
 
 def held_by(text):
     """The recordings that a page holds; none where it has no calls."""

@@ -104,32 +104,77 @@ def check_call(page, flight, number):
     return check_places(page, flight, number)
 
 
-def check_keys(page, lines):
-    """The keyboard alone: from the first call on."""
-    last = len(lines)
-    page.value("document.activeElement.blur()")
-    marked = [n for n, line in enumerate(lines, 1) if re.search(r" refused | hold | fallback |\d idle ", line)]
-    for name, shift, call in (
-        ("Home", False, 1),
-        ("ArrowRight", False, 2),
-        ("ArrowRight", True, 12),
-        ("ArrowLeft", False, 11),
-        ("ArrowLeft", True, 1),
-        ("ArrowLeft", False, 1),
-        ("n", False, marked[0]),
-        ("End", False, last),
-        ("ArrowRight", False, last),
-    ):
-        page.key(name, shift)
+# The page's list of keys, line by line: check_steps, check_hundreds, check_steps, check_play, check_marks, check_larger and check_theme
+# try what it says.
+KEYS = [
+    "→ ← a call on, a call back; with Shift ten",
+    "Page Up Page Down with the slider in focus a hundred on, a hundred back; else the page is scrolled",
+    "Home End the first call, the last",
+    "Space play, pause",
+    "n p the next, the previous call at which a mark begins: refused, held, fell back, idle",
+    "+ - 0 the map larger, round the plane; smaller; whole",
+    "t day or night screen",
+]
+
+
+def press(page, *keys):
+    """Keys, with the call that each has to show; a name after ⇧ is pressed with Shift."""
+    for name, call in keys:
+        page.key(name.removeprefix("⇧"), name.startswith("⇧"))
         expect(call_shown(page) == call, f"{name} shows call {call_shown(page)}, not {call}")
+
+
+def check_steps(page, last):
+    """Without a focus, as the page is opened."""
+    page.value("document.activeElement.blur()")
+    press(page, ("Home", 1), ("ArrowRight", 2), ("⇧ArrowRight", 12), ("ArrowLeft", 11), ("⇧ArrowLeft", 1), ("ArrowLeft", 1))
+    press(page, ("End", last), ("ArrowRight", last), ("ArrowLeft", last - 1), ("End", last))
+
+
+def scrolled(page, name, there):
+    """Presses a key that scrolls the page; whether it comes to such a place."""
+    page.key(name)
+    until = time.monotonic() + 3
+    while not there(page.value("window.scrollY")) and time.monotonic() < until:
+        time.sleep(0.05)
+    return there(page.value("window.scrollY"))
+
+
+def check_hundreds(page):
+    """Page Up and Page Down: with the slider in focus, and without."""
     page.value("document.getElementById('slider').focus()")
-    for name, call in (("Home", 1), ("PageUp", 101), ("PageDown", 1), ("ArrowUp", 2), ("ArrowRight", 3)):
-        page.key(name)
-        expect(call_shown(page) == call, f"{name} on the slider shows call {call_shown(page)}, not {call}")
+    press(page, ("Home", 1), ("PageUp", 101), ("PageUp", 201), ("PageDown", 101), ("ArrowUp", 102), ("ArrowRight", 103))
+    page.value("document.activeElement.blur()")
+    page.value("window.scrollTo(0, 0)")
+    expect(scrolled(page, "PageDown", lambda y: y > 100), "Page Down without the slider's focus does not scroll the page")
+    expect(scrolled(page, "PageUp", lambda y: y == 0), "Page Up without the slider's focus does not scroll the page back")
+    expect(call_shown(page) == 103, f"scrolling the page shows call {call_shown(page)}")
+
+
+def check_marks(page, lines):
+    """From mark to mark: the calls that have another mark than the call before."""
+    marks = [re.findall(r"refused|hold|fallback|idle", line) for line in lines]
+    begun = [n for n, mark in enumerate(marks, 1) if mark and (n == 1 or mark != marks[n - 2])]
+    page.value("document.activeElement.blur()")
+    press(page, ("Home", 1), *(("n", call) for call in begun[:12]), *(("p", call) for call in reversed(begun[:11])))
+
+
+def check_theme(page):
     before = page.value("document.documentElement.dataset.theme")
     page.key("t")
     expect(page.value("document.documentElement.dataset.theme") != before, "t does not turn the screen's colours")
     page.key("t")
+    expect(page.value("document.documentElement.dataset.theme") == before, "t does not turn the screen's colours back")
+
+
+def check_keys(page, lines):
+    """The keyboard alone, as the page's list of keys says."""
+    listed = page.value("[...document.querySelectorAll('.keys li')].map((e) => e.textContent)")
+    expect(listed == KEYS, f"the page's list of keys is {listed}")
+    check_steps(page, len(lines))
+    check_hundreds(page)
+    check_marks(page, lines)
+    check_theme(page)
 
 
 def check_slider(page, last):
@@ -148,8 +193,9 @@ def check_larger(page, flight):
     for number in (700, 703, 2500):
         check_call(page, flight, number)
         expect(page.value(INSIDE), f"call {number}: the plane is not on the larger map")
-    page.key("0")
-    expect(page.value("document.getElementById('zoom').textContent") == "× 1", "0 does not show the whole map")
+    for name, shown in (("-", "× 4"), ("0", "× 1")):
+        page.key(name)
+        expect(page.value("document.getElementById('zoom').textContent") == shown, f"{name} does not show the map {shown}")
 
 
 def check_play(page):

@@ -31,8 +31,9 @@ def read_ahead(data, flown, number, steps):
         raise programs.Missing(f"the recording has no waypoint call {number}")
     if not 1 <= steps <= MOST_STEPS:
         raise programs.Missing(f"a path has 1 to {MOST_STEPS} steps")
-    lines = programs.run(programs.path_command(number, steps), data).decode().splitlines()
+    command, drawer = programs.path_command(number, steps)
+    lines = programs.run(command, data).decode().splitlines()
     _, drawn, step, reason = map(int, lines[0].split()[1:])
     places = [tuple(value(int(word, 16)) for word in line.split()[:2]) for line in lines[1:]]
     here = [moment.place for moment in flown if moment.number == number and moment.place]
-    return Ahead(number, here + places, told(drawn, step, reason))
+    return Ahead(number, here + places, f"{told(drawn, step, reason)}; drawn by {drawer}")

@@ -12,10 +12,15 @@ LONGEST_STEP = 50
 
 
 class Moment(NamedTuple):
-    """A call and its answer. place: north and east of the plane as the call reports it, or none."""
+    """A call and its answer.
+
+    time: the sum of the time steps after the first call's; along: the call's place on a drawn axis of time; place: north and east of the
+    plane as the call reports it, or none.
+    """
 
     number: int
     time: float
+    along: float
     call: Call
     answer: Answer
     place: tuple | None
@@ -41,10 +46,11 @@ class Moment(NamedTuple):
 
 
 class Aim(NamedTuple):
-    """What waypoint calls aim at: a leg through a point, or a circle round it where there is no finite leg."""
+    """What waypoint calls aim at: a leg through a point, or a circle round it where there is no finite leg, with its radius."""
 
     at: tuple
     leg: tuple | None
+    radius: float | None
 
 
 def finite_values(bits):
@@ -57,42 +63,55 @@ def good_step(call):
     return value(bits) if is_finite(bits) and value(bits) > 0 else None
 
 
+def usual_step(calls):
+    return statistics.median([step for step in map(good_step, calls) if step] or [1.0])
+
+
 def time_steps(calls):
-    """A step that is refused counts as the one before it; a very long one as a usual one."""
-    usual = statistics.median([step for step in map(good_step, calls) if step] or [1.0])
-    last = usual
+    """The time step of each call, and how long it is drawn; a prime has none.
+
+    A step that is refused counts nothing and is drawn as the one before it; a very long one is drawn as a usual one.
+    """
+    drawn = usual = usual_step(calls)
     for call in calls:
         if call.kind == "prime":
-            yield 0.0
+            yield 0.0, 0.0
             continue
-        last = good_step(call) or last
-        if last > LONGEST_STEP * usual:
-            last = usual
-        yield last
+        step = good_step(call)
+        if step:
+            drawn = usual if step > LONGEST_STEP * usual else step
+        yield step or 0.0, drawn
 
 
 def moments(calls, answers):
-    time, found = 0.0, []
-    for number, (call, answer, step) in enumerate(zip(calls, answers, time_steps(calls)), 1):
+    time, along, found = 0.0, 0.0, []
+    for number, (call, answer, (step, drawn)) in enumerate(zip(calls, answers, time_steps(calls)), 1):
         if number > 1:
-            time += step
+            time, along = time + step, along + drawn
         place = finite_values(call.numbers["position"][:2]) if call.kind == "waypoint" else None
-        found.append(Moment(number, time, call, answer, place))
+        found.append(Moment(number, time, along, call, answer, place))
     return found
 
 
-def aim_of(call):
-    """What a waypoint call aims at; none where its point is not finite."""
-    at = finite_values(call.numbers["at"])
-    return at and Aim(at, finite_values(call.numbers.get("leg")))
+def off_scale(flown):
+    """The calls whose time step is drawn and counts nothing, and those whose step is drawn shorter than it is."""
+    longest = LONGEST_STEP * usual_step([moment.call for moment in flown])
+    timed = [(moment, good_step(moment.call)) for moment in flown[1:] if moment.call.kind != "prime"]
+    return [m for m, step in timed if step is None], [m for m, step in timed if step and step > longest]
 
 
-def aims(flown):
+def aim_of(call, radius):
+    """What a waypoint call aims at, with the loiter radius in force; none where its point is not finite."""
+    at, leg = finite_values(call.numbers["at"]), finite_values(call.numbers.get("leg"))
+    return at and Aim(at, leg, None if leg else radius)
+
+
+def aims(flown, configuration):
     """Each aim in the order of its first call, with the places from which it was flown; an idle call flies to none."""
-    found = {}
+    found, radius = {}, value(configuration["loiter_radius_m"])
     for moment in flown:
         if moment.call.kind == "waypoint" and not moment.idle:
-            aim = aim_of(moment.call)
+            aim = aim_of(moment.call, radius)
             if aim:
                 found.setdefault(aim, [])
                 if moment.place:
@@ -101,7 +120,7 @@ def aims(flown):
 
 
 class Run(NamedTuple):
-    """A number over time without a gap: (time, number) at each call, and the time at which it ends."""
+    """A number over time without a gap: (place along the axis, number) at each call, and the place at which it ends."""
 
     steps: list
     end: float
@@ -116,12 +135,12 @@ def runs(flown, number_of):
             if open_run is None:
                 open_run = []
                 found.append(open_run)
-            open_run.append((moment.time, number))
+            open_run.append((moment.along, number))
         elif open_run is not None:
-            found[-1] = Run(open_run, moment.time)
+            found[-1] = Run(open_run, moment.along)
             open_run = None
     if open_run is not None:
-        found[-1] = Run(open_run, flown[-1].time)
+        found[-1] = Run(open_run, flown[-1].along)
     return found
 
 

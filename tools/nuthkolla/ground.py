@@ -4,36 +4,42 @@ import collections
 import math
 import textwrap
 
-from nuthkolla.flight import aim_of, aims
-from nuthkolla.numbers import value
-from nuthkolla.svg import LEAST_SPAN, Scale, add, clipped, cross, frame, head, label, line, path, square, steps, usual_span
+from nuthkolla.flight import aims, finite_values
+from nuthkolla.svg import LEAST_SPAN, Scale, add, clipped, cross, frame, head, label, line, path, short, square, steps, usual_span
+from nuthkolla.words import MOST_LISTED, listed, of_calls
 
-# More numbers than this on the map would hide it.
+# More numbers, or circles with heads, than this on the map would hide it.
 MOST_NAMES = 40
 # So many of the page's units between two heads on the track.
 BETWEEN_HEADS = 110.0
 # Beyond this a double no longer tells metres from each other.
 FARTHEST = 1e12
-MOST_LISTED = 6
 NOTE_WIDTH = 76  # letters
 
 
 class Ground:
     """The map's scales, in a box (left, top, right, bottom) of the page: equal metres east and north.
 
-    beside: the moments of a second recording; route: the places of a route's points.
+    recordings: the moments and the configuration of one, or of one and of a second beside it; route: the places of a route's points.
     """
 
-    def __init__(self, flown, configuration, box, ahead=None, beside=(), route=()):
-        self.flown, self.box, self.ahead, self.beside, self.route = flown, box, ahead, beside, route
-        self.aimed, self.radius = aims([*flown, *beside]), value(configuration["loiter_radius_m"])
-        places = [m.place for m in [*flown, *beside] if m.place]
+    def __init__(self, recordings, box, ahead=None, route=()):
+        self.recordings, self.box, self.ahead, self.route = recordings, box, ahead, route
+        self.aimed = {}
+        for recording in recordings:
+            for aim, places in aims(*recording).items():
+                self.aimed.setdefault(aim, []).extend(places)
+        places = [m.place for flown, _ in recordings for m in flown if m.place]
         corners = list(route)
-        for at, leg in self.aimed:
-            reach = 0 if leg else self.radius
-            corners += [(at[0] + side, at[1] + side) for side in (-reach, reach)]
+        for at, _, radius in self.aimed:
+            corners += [(at[0] + side, at[1] + side) for side in (-(radius or 0), radius or 0)]
         corners += ahead.places if ahead else []
         self.scale_to(places or corners or [(0.0, 0.0)], corners)
+
+    @property
+    def flown(self):
+        """The moments of the first recording."""
+        return self.recordings[0][0]
 
     def scale_to(self, places, corners):
         """The places that are not far off the others, and of the corners those that are near them."""
@@ -56,9 +62,9 @@ class Ground:
         """The page's place of a place north and east."""
         return self.east(place[1]), self.north(place[0])
 
-    def circle(self):
+    def circle(self, radius):
         """A loiter's radius on the page; 0 where its circle would be far larger than the map."""
-        size = self.radius / self.metres
+        size = radius / self.metres
         return size if 0 < size <= 4 * (self.box[3] - self.box[1]) else 0.0
 
 
@@ -106,25 +112,27 @@ def draw_leg(group, at, leg, places, ground):
         head(group, "head", (x + 9 * unit[1], y - 9 * unit[0]), (unit[1], -unit[0]), 14)
 
 
-def draw_circle(group, at, ground):
-    """A loiter's circle, with heads that show its sense: clockwise, seen from above."""
-    (x, y), size = ground(at), ground.circle()
+def draw_circle(group, at, radius, ground, heads):
+    """A loiter's circle, where heads are wanted with some that show its sense: clockwise, seen from above."""
+    (x, y), size = ground(at), ground.circle(radius)
     if size:
         add(group, "circle", "aim loiter", cx=x, cy=y, r=size)
-    path(group, "aim centre", [(x - 6, y), (x + 6, y)])
-    path(group, "aim centre", [(x, y - 6), (x, y + 6)])
+    add(group, "path", "aim centre", d=f"M{short(x - 6)},{short(y)}h12m-6,-6v12")
     for turn in (math.radians(60), math.radians(180), math.radians(300)):
-        if size > 10:
+        if heads and size > 10:
             tip = (x + size * math.sin(turn), y - size * math.cos(turn))
             head(group, "head", tip, (math.cos(turn), math.sin(turn)), 11)
 
 
 def draw_aims(group, ground):
-    for (at, leg), places in ground.aimed.items():
-        if leg:
-            draw_leg(group, at, leg, places, ground)
-        elif ground.within(at):
-            draw_circle(group, at, ground)
+    """Every leg and circle; of very many circles every so many have heads."""
+    circles = [aim for aim in ground.aimed if not aim.leg and ground.within(aim.at)]
+    with_heads = set(circles[:: -(-len(circles) // MOST_NAMES) or 1])
+    for aim, places in ground.aimed.items():
+        if aim.leg:
+            draw_leg(group, aim.at, aim.leg, places, ground)
+        elif ground.within(aim.at):
+            draw_circle(group, aim.at, aim.radius, ground, aim in with_heads)
 
 
 def draw_aim_numbers(group, ground):
@@ -132,15 +140,15 @@ def draw_aim_numbers(group, ground):
     if len(ground.aimed) > MOST_NAMES:
         return
     numbers = collections.defaultdict(list)
-    for number, (at, leg) in enumerate(ground.aimed, 1):
+    for number, (at, _, radius) in enumerate(ground.aimed, 1):
         if ground.within(at):
-            numbers[at, leg is None].append(number)
+            numbers[at, radius].append(number)
     left, _, right, _ = ground.box
-    for (at, circle), found in numbers.items():
+    for (at, radius), found in numbers.items():
         (x, y), words = ground(at), listed(found)
-        if circle:
+        if radius:
             x = min(max(x, left + 80), right - 80)
-            label(group, "ink name over middle", x, y + ground.circle() + 18, f"{words} loiter, {ground.radius:.3g} m")
+            label(group, "ink name over middle", x, y + ground.circle(radius) + 18, f"{words} loiter, {radius:.3g} m")
         else:
             label(group, "ink name over", x + 10, y - 9, words)
 
@@ -194,9 +202,10 @@ def draw_point(group, moment, ground):
 
 def draw_beside(group, ground):
     """The track of a second recording."""
-    for part in tracks(ground, ground.beside):
-        path(group, "other", part)
-        draw_heads(group, part, "other way")
+    for flown, _ in ground.recordings[1:]:
+        for part in tracks(ground, flown):
+            path(group, "other", part)
+            draw_heads(group, part, "other way")
 
 
 def draw_track(group, ground):
@@ -248,51 +257,39 @@ def draw_map(page, ground):
 # ---- what is not on the map
 
 
-def listed(numbers):
-    """Numbers in words: runs as `7 to 9`, and how many more there are."""
-    parts = []
-    for number in numbers:
-        if parts and parts[-1][1] == number - 1:
-            parts[-1][1] = number
-        else:
-            parts.append([number, number])
-    words = [f"{a}" if a == b else f"{a} to {b}" if b > a + 1 else f"{a}, {b}" for a, b in parts[:MOST_LISTED]]
-    left = sum(b - a + 1 for a, b in parts[MOST_LISTED:])
-    return ", ".join(words) + (f" and {left} more" if left else "")
-
-
-def of_calls(found, what):
-    return f"{len(found)} call{'s' * (len(found) > 1)} {what}: {listed([m.number for m in found])}" if found else None
-
-
-def aim_notes(ground):
-    outside = [(n, aim) for n, aim in enumerate(ground.aimed, 1) if not ground.within(aim.at)]
+def aim_notes(ground, recording):
+    """Of the aims of a recording; numbers are those on the map."""
+    own = aims(*recording)
+    outside = [(n, aim) for n, aim in enumerate(ground.aimed, 1) if aim in own and not ground.within(aim.at)]
     notes = []
-    for n, (at, leg) in outside[:MOST_LISTED]:
-        what = "leg through" if leg else f"loiter, {ground.radius:.3g} m, round"
+    for n, (at, leg, radius) in outside[:MOST_LISTED]:
+        what = "leg through" if leg else f"loiter, {radius:.3g} m, round"
         notes.append(f"aim {n}, a {what} {at[0]:g} m north, {at[1]:g} m east")
     if outside[MOST_LISTED:]:
         notes.append(f"{len(outside) - MOST_LISTED} more aims")
-    if not ground.circle() and any(leg is None for _, leg in ground.aimed):
-        notes.append(f"circles of {ground.radius:.3g} m, far larger than the map")
-    far = [n for n, place in enumerate(ground.route, 1) if not ground.within(place)]
-    if far:
-        notes.append(f"of the route P{listed(far)}")
-    lost = [m for m in ground.flown if m.call.kind == "waypoint" and not aim_of(m.call)]
-    return notes + [of_calls(lost, "with an aim that is not finite")]
+    for radius in {aim.radius for aim in own if aim.radius and not ground.circle(aim.radius)}:
+        notes.append(f"circles of {radius:.3g} m, far larger than the map")
+    return notes
 
 
-def map_notes(ground):
-    """In words: the calls and the aims that are not on the map."""
-    waypoints = [m for m in ground.flown if m.call.kind == "waypoint" and not ground.within(m.place)]
-    others = [m for m in ground.flown if m.refused and m.call.kind != "waypoint"]
+def map_notes(ground, recording):
+    """In words: the calls and the aims of a recording that are not on the map."""
+    asked = [m for m in recording[0] if m.call.kind == "waypoint"]
+    waypoints = [m for m in asked if not ground.within(m.place)]
     notes = [
         of_calls([m for m in waypoints if m.place is None], "with a position that is not finite"),
         of_calls([m for m in waypoints if m.place], "with a position far off the others"),
-        of_calls(others, "refused, of a kind that reports no position"),
-        *aim_notes(ground),
+        of_calls([m for m in recording[0] if m.refused and m.call.kind != "waypoint"], "refused, of a kind that reports no position"),
+        *aim_notes(ground, recording),
+        of_calls([m for m in asked if not finite_values(m.call.numbers["at"])], "with an aim that is not finite"),
     ]
     return [note for note in notes if note]
+
+
+def route_notes(ground):
+    """In words: the points of the route that are not on the map."""
+    far = [n for n, place in enumerate(ground.route, 1) if not ground.within(place)]
+    return [f"of the route P{listed(far)}"] if far else []
 
 
 def told_counts(ground):
@@ -306,7 +303,7 @@ def told_counts(ground):
 def draw_notes(page, ground, stopped, left, top):
     """Lines below the map: what stopped the replay, and what is not on the map; the place after them."""
     group = add(page, "g", "told", **told_counts(ground))
-    notes = map_notes(ground)
+    notes = map_notes(ground, ground.recordings[0])
     heads = [("The replay stopped", [stopped])] if stopped else []
     if ground.ahead:
         heads.append((f"The turn to come at call {ground.ahead.number}", [ground.ahead.words]))

@@ -4,7 +4,6 @@ The page works out nothing: every number of it is one of the recording or of the
 """
 
 import base64
-import copy
 import html
 import itertools
 import json
@@ -12,7 +11,7 @@ import pathlib
 import struct
 import xml.etree.ElementTree as ET
 
-from nuthkolla.ground import Ground, draw_map, map_notes
+from nuthkolla.ground import Ground, draw_map, map_notes, route_notes
 from nuthkolla.numbers import value
 from nuthkolla.paper import legend_items, plain_text, summary
 from nuthkolla.strips import Column, draw_over_time
@@ -48,7 +47,9 @@ DETAILS = {
     "position": "Position",
     "line": "Line of the desk program, numbers as bits",
 }
-ACCEPTED, NO_GUARD, GUARD = "none", "does not stand", "▲ stands: thrust at its top"
+# The points of a turn to come that a page holds: of one recording, of each of two, so that the page is at most 10 MB. A point's bytes.
+MOST_POINTS, MOST_OF_TWO, POINT = 48, 24, 8
+ACCEPTED, NO_GUARD, GUARD, GUARD_STEP = "none", "does not stand", "▲ stands", "▲ stands: thrust at its top"
 # Tiles that are marked, but for these words.
 ALARMS = {"refusal": [ACCEPTED], "guard": [NO_GUARD]}
 
@@ -56,13 +57,18 @@ ALARMS = {"refusal": [ACCEPTED], "guard": [NO_GUARD]}
 # ---- a call in words
 
 
+def guard_words(stands, moment):
+    """Only an energy step's thrust is at its top while the guard stands."""
+    return (GUARD_STEP if moment.law == "energy" else GUARD) if stands else NO_GUARD
+
+
 def told_call(replay, n):
     """What is told of a call, by name."""
     moment = replay.flown[n]
-    time = f"{moment.time:.1f} s" if moment.time < 1e6 else f"{moment.time:g} s"
+    time = f"{moment.time:.1f} s" if moment.time < 1e9 else f"{moment.time:g} s"
     words = {
         "call": f"{moment.number} of {len(replay.flown)}\nat {time}",
-        "guard": GUARD if replay.guard[n] else NO_GUARD,
+        "guard": guard_words(replay.guard[n], moment),
         "command": command_words(moment.call),
         "laws": law_words(moment.answer),
         "refusal": "✕ " + refused_words(moment.answer.refusal) if moment.refused else ACCEPTED,
@@ -75,6 +81,19 @@ def told_call(replay, n):
 
 
 # ---- what the script reads
+
+SAID = ("roll", "pitch", "yaw", "thrust", "off")
+
+
+def in_parts(words):
+    """What is told of a call, with what is said of it by the names of its parts: @roll@ for the words of its roll."""
+    said, _, rest = words["said"].partition(": ")
+    for name in SAID:
+        part = words.get(name)
+        if part and part in rest:
+            rest = rest.replace(part, f"@{name}@", 1)
+    number = words["call"].partition(" ")[0]
+    return words | {"said": said.replace(f"call {number}", "call @number@", 1) + (f": {rest}" if rest else "")}
 
 
 def packed(form, numbers):
@@ -102,13 +121,21 @@ def scale_of(scale):
     return {"low": scale.low, "high": scale.high, "start": scale.start, "end": scale.end}
 
 
-def recording_data(replay, time_scale):
-    flown, told = replay.flown, [told_call(replay, n) for n in range(len(replay.flown))]
-    counts = [len(turn.points) // 8 for turn in replay.turns]
-    points = base64.b64encode(b"".join(turn.points for turn in replay.turns)).decode()
+def thinned(points, most):
+    """Of a turn's points every k-th and the last, so that there are at most so many."""
+    found = [points[n : n + POINT] for n in range(0, len(points), POINT)]
+    apart = -(-len(found) // most) or 1
+    return b"".join(found[apart - 1 : -1 : apart] + found[-1:])
+
+
+def recording_data(replay, time_scale, most_points):
+    flown, told = replay.flown, [in_parts(told_call(replay, n)) for n in range(len(replay.flown))]
+    turns = [thinned(turn.points, most_points) for turn in replay.turns]
+    counts = [len(points) // POINT for points in turns]
+    points = base64.b64encode(b"".join(turns)).decode()
     return {
         "name": replay.name,
-        "time": packed("d", [m.time for m in flown]),
+        "along": packed("d", [m.along for m in flown]),
         "scale": scale_of(time_scale),
         "place": packed("f", pairs(flown, "position")),
         "way": packed("f", pairs(flown, "velocity")),
@@ -161,8 +188,8 @@ def strips_text(replay, hidden):
     held = Column(replay.flown, replay.guard, STRIPS_LEFT, STRIPS_RIGHT, STRIP_HEIGHT, STRIP_GAP)
     words = f"{replay.name} over time: marks, roll, pitch, thrust, metres off the line, height and airspeed"
     page = svg(None, STRIPS_WIDTH, 0, words)
-    bottom = draw_over_time(page, held, replay.configuration, STRIPS_TOP)
-    box = f"0 0 {STRIPS_WIDTH} {bottom + 44}"
+    bottom, lowest = draw_over_time(page, held, replay.configuration, STRIPS_TOP)
+    box = f"0 0 {STRIPS_WIDTH} {lowest + 8}"
     page.set("viewBox", box)
     moving = ET.Element("svg", {"class": "moving", "viewBox": box, "aria-hidden": "true"})
     cursor = add(moving, "g", "cursor-at")
@@ -233,17 +260,14 @@ def signs_text(flown, two, route):
 
 
 def notes_text(ground, replays):
-    """What is not on the map, and why a replay ended early, for each recording."""
+    """What is not on the map, and why a replay ended early, for each recording, and of the route."""
     found = []
-    for replay in replays:
+    for replay, recording in zip(replays, ground.recordings):
         lines = [f"The replay stopped: {replay.ending}"] if replay.ending else []
-        view = copy.copy(ground)
-        view.flown = replay.flown
-        lines += map_notes(view)
-        if lines:
-            items = "".join(f"<li>{html.escape(words)}</li>" for words in lines)
-            found.append(f"<h2>{html.escape(replay.name)}: not on the map, or not replayed</h2><ul>{items}</ul>")
-    return "\n".join(found)
+        found.append((f"{replay.name}: not on the map, or not replayed", lines + map_notes(ground, recording)))
+    found.append(("Not on the map", route_notes(ground)))
+    items = [(title, "".join(f"<li>{html.escape(words)}</li>" for words in lines)) for title, lines in found if lines]
+    return "\n".join(f"<h2>{html.escape(title)}</h2><ul>{lines}</ul>" for title, lines in items)
 
 
 # ---- the page
@@ -258,15 +282,14 @@ def filled(name, **parts):
 
 def flight_text(replays, agreement, route):
     """The page's main part, of one or two recordings that have calls."""
-    first, *others = replays
-    beside = others[0].flown if others else ()
-    ground = Ground(first.flown, first.configuration, MAP, beside=beside, route=route)
+    ground = Ground([(replay.flown, replay.configuration) for replay in replays], MAP, route=route)
+    most_points = MOST_POINTS if len(replays) == 1 else MOST_OF_TWO
     strips, scales = zip(*(strips_text(replay, n > 0) for n, replay in enumerate(replays)))
     data = {
         "east": scale_of(ground.east),
         "north": scale_of(ground.north),
         "alarms": ALARMS,
-        "recordings": [recording_data(replay, scale) for replay, scale in zip(replays, scales)],
+        "recordings": [recording_data(replay, scale, most_points) for replay, scale in zip(replays, scales)],
     }
     left, top, right, bottom = MAP
     return filled(
@@ -279,9 +302,9 @@ def flight_text(replays, agreement, route):
         map_box=f"0 0 {MAP_WIDTH} {MAP_HEIGHT}",
         clip=f'x="{left}" y="{top}" width="{right - left}" height="{bottom - top}"',
         strips="\n".join(strips),
-        signs=signs_text([*first.flown, *beside], bool(others), route),
+        signs=signs_text([moment for replay in replays for moment in replay.flown], len(replays) > 1, route),
         notes=notes_text(ground, replays),
-        last=str(len(first.flown)),
+        last=str(len(replays[0].flown)),
         data=script_text(data),
     )
 

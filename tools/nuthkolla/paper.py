@@ -6,7 +6,7 @@ from nuthkolla.flight import stall_guard
 from nuthkolla.ground import Ground, draw_map, draw_notes
 from nuthkolla.strips import Column, draw_over_time
 from nuthkolla.style import style
-from nuthkolla.svg import add, cross, head, label, line, square
+from nuthkolla.svg import add, cross, hatched, head, label, line, square
 from nuthkolla.words import REFUSED, STOPPED
 
 WIDTH = 1240
@@ -21,7 +21,7 @@ def summary(flown):
     refused = sum(m.refused for m in flown)
     other = len(flown) - refused - sum(counts.values())
     time = flown[-1].time
-    words = [f"{len(flown)} call{'s' * (len(flown) > 1)} in {f'{time:.0f}' if time < 1e6 else f'{time:g}'} s"]
+    words = [f"{len(flown)} call{'s' * (len(flown) > 1)} in {f'{time:.0f}' if time < 1e9 else f'{time:g}'} s"]
     idle = sum(m.idle for m in flown)
     laws = f"{counts['energy']} energy, {counts['fallback']} fallback, {counts['hold']} hold"
     words += [f"waypoint answers: {laws}" + (f", {idle} of them idle" if idle else "")]
@@ -44,13 +44,13 @@ def legend_items(flown, ahead):
     to_come = [(lambda g, x, y: line(g, "ahead", x, y, x + 28, y), "the turn to come")] if ahead else []
     return to_come + [
         (lambda g, x, y: add(g, "circle", "energy", cx=x + 14, cy=y, r=2.5), "waypoint call, energy law"),
-        (lambda g, x, y: add(g, "circle", "fallback", cx=x + 14, cy=y, r=3), "fallback: no usable airspeed"),
+        (lambda g, x, y: add(g, "circle", "fallback", cx=x + 14, cy=y, r=3), "fallback: no usable airspeed, or no cruise speed above 0"),
         (lambda g, x, y: square(g, "hold", x + 14, y, 3.5), "hold: trim pitch, cruise thrust (grey)"),
         (lambda g, x, y: add(g, "circle", "ring", cx=x + 14, cy=y, r=6), "idle: ground speed below 1 m/s, or a leg without length"),
         (lambda g, x, y: head(g, "way", (x + 19.0, y), (1.0, 0.0), 10), "direction of flight"),
         (lambda g, x, y: line(g, "limit", x, y, x + 28, y), "limits of waypoint answers"),
         (lambda g, x, y: line(g, "demand", x, y, x + 28, y), "height, cruise speed demanded"),
-        (lambda g, x, y: add(g, "rect", "guard", x=x, y=y - 6, width=28, height=12), "stall guard: thrust at its top"),
+        (lambda g, x, y: hatched(g, "guard", (x, y - 6, x + 28, y + 6)), "stall guard stands"),
         (lambda g, x, y: line(g, "aim", x, y, x + 28, y), "leg or loiter circle that calls aim at, numbered in their order"),
         (lambda g, x, y: cross(g, "refused", x + 14, y, 4), f"refused call ({reasons})" if reasons else "refused call"),
     ]
@@ -88,11 +88,12 @@ def draw_page(title, configuration, flown, ending, ahead=None):
     paper = add(page, "rect", "paper", width=WIDTH)
     label(page, "ink title", MAP[0], 40, title)
     label(page, "ink", MAP[0], 66, summary(flown))
-    ground = Ground(flown, configuration, MAP, ahead)
+    ground = Ground([(flown, configuration)], MAP, ahead)
     draw_map(page, ground)
     noted = draw_notes(page, ground, stopped(ending), MAP[0], MAP[3] + 70)
-    lowest = draw_over_time(page, Column(flown, stall_guard(configuration, flown), STRIPS_LEFT, STRIPS_RIGHT), configuration, TOP)
-    height = draw_legend(page, flown, ahead, max(lowest + 66, noted + 10)) + 30
+    column = Column(flown, stall_guard(configuration, flown), STRIPS_LEFT, STRIPS_RIGHT)
+    _, lowest = draw_over_time(page, column, configuration, TOP)
+    height = draw_legend(page, flown, ahead, max(lowest + 30, noted + 10)) + 30
     paper.set("height", str(height))
     page.set("viewBox", f"0 0 {WIDTH} {height}")
     page.set("width", str(WIDTH))

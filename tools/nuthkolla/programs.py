@@ -22,15 +22,21 @@ def oracle_command(mode):
     return [str(ORACLE), mode]
 
 
+def up_to_date(program, *more):
+    """The program's name. An old build would answer for sources that are no longer there; more: sources beside the crates."""
+    name = program.relative_to(ROOT)
+    if not program.is_file():
+        raise Missing(f"{name} is not built")
+    built = program.stat().st_mtime
+    folders = [file for file in (ROOT / "crates").rglob("*") if file.is_file()]
+    if any(file.stat().st_mtime > built for file in (ROOT / "crates.txt", *folders, *more)):
+        raise Missing(f"{name} is older than its sources")
+    return str(program)
+
+
 def own_desk_command():
-    """The desk program. An old build would answer for sources that are no longer there."""
-    if not DESK.is_file():
-        raise Missing("target/bin/desk is not built")
-    built = DESK.stat().st_mtime
-    sources = [ROOT / "crates.txt", *(file for file in (ROOT / "crates").rglob("*") if file.is_file())]
-    if any(file.stat().st_mtime > built for file in sources):
-        raise Missing("target/bin/desk is older than its sources")
-    return [str(DESK)]
+    """The desk program."""
+    return [up_to_date(DESK)]
 
 
 def desk_command():
@@ -45,12 +51,14 @@ def desk_command():
 
 
 def path_command(call, steps):
-    """What draws the path at a call: the archive behind tools/host/paths.c, or the oracle in its place."""
-    if PATHS.is_file():
-        return [str(PATHS), "at", str(call), str(steps)]
-    if ORACLE.is_file():
-        return [str(ORACLE), "path-at", str(call), str(steps)]
-    raise Missing("target/host/paths is not built (tools/test/built/60-host builds it), and target/oracle/oracle is not either")
+    """What draws the path at a call, and its name: the archive behind tools/host/paths.c, or the oracle in its place."""
+    try:
+        program = up_to_date(PATHS, *(ROOT / name for name in ("include/nuthkolla.h", "tools/host/paths.c", "tools/host/records.h")))
+        return [program, "at", str(call), str(steps)], "nuthkolla_draw_path"
+    except Missing as missing:
+        if not ORACLE.is_file():
+            raise Missing(f"{missing} (tools/test/built/60-host builds it), and target/oracle/oracle is not built") from None
+        return [str(ORACLE), "path-at", str(call), str(steps)], f"the oracle: {missing}"
 
 
 def page_command():

@@ -21,12 +21,17 @@ def bytes_of(file):
 
 
 def read_flight(recording_file, lines_file):
-    """The configuration, the moments, and the words of the line that ended the replay early or none."""
+    """The flight of a recording's file and of its lines, which the desk program prints where there is no file of them."""
     data = bytes_of(recording_file)
     if lines_file:
         lines = lines_file.read_text(encoding="utf-8")
     else:
         lines = programs.run(programs.desk_command(), data).decode()
+    return flight_of(data, lines)
+
+
+def flight_of(data, lines):
+    """The configuration, the moments, and the words of the line that ended the replay early or none."""
     configuration, calls, _ = recording = read_recording(data)
     answers, ending = found = read_lines(lines)
     check_match(recording, found)

@@ -1,14 +1,18 @@
 """The page's strips over time: marks of calls, the setpoint with its limits, and what the sensors report."""
 
 import math
+import textwrap
 from collections.abc import Callable
 from typing import NamedTuple
 
-from nuthkolla.flight import in_force, runs
+from nuthkolla.flight import LONGEST_STEP, in_force, off_scale, runs
 from nuthkolla.numbers import is_finite, value
-from nuthkolla.svg import Scale, add, cross, frame, label, line, path, square, steps, usual_span
+from nuthkolla.svg import Scale, add, cross, frame, hatched, label, line, paths, square, steps, usual_span
+from nuthkolla.words import of_calls
 
 STRIP_HEIGHT, STRIP_GAP = 112, 34
+MOST_TICKS, HALF_LETTER = 9, 3.6
+NOTE_WIDTH = 58  # letters
 
 
 # ---- the quantities
@@ -113,7 +117,7 @@ class Column:
     def __init__(self, flown, guard, left, right, height=STRIP_HEIGHT, gap=STRIP_GAP):
         self.flown, self.guard, self.left, self.right = flown, guard, left, right
         self.height, self.gap = height, gap
-        self.time = Scale((0.0, max(flown[-1].time, 1.0)), (left, right))
+        self.time = Scale((0.0, max(flown[-1].along, 1.0)), (left, right))
 
     def box(self, top, height):
         return self.left, top, self.right, top + height
@@ -121,23 +125,21 @@ class Column:
 
 def draw_spans(page, column, top, bottom):
     """Grey where the answers were holds; a dotted line where a call was refused."""
-    held = lambda m: 1 if m.law == "hold" else None
-    for run in runs([m for m in column.flown if not m.refused], held):
-        first, last = column.time(run.steps[0][0]), column.time(run.end)
-        add(page, "rect", "span", x=first, y=top, width=max(last - first, 1.0), height=bottom - top)
-    for moment in column.flown:
-        if moment.refused:
-            x = column.time(moment.time)
-            line(page, "refused through", x, top, x, bottom)
+    held = runs([m for m in column.flown if not m.refused], lambda m: 1 if m.law == "hold" else None)
+    ends = [(column.time(run.steps[0][0]), column.time(run.end)) for run in held]
+    corners = [(first, max(last, first + 1.0)) for first, last in ends]
+    paths(page, "span", [[(first, top), (last, top), (last, bottom), (first, bottom)] for first, last in corners])
+    refused = [column.time(moment.along) for moment in column.flown if moment.refused]
+    paths(page, "refused through", [[(x, top), (x, bottom)] for x in refused])
 
 
 def draw_guard(page, column, top, bottom):
-    """Where the stall guard stands, which keeps an energy step's thrust at its top."""
+    """Where the stall guard stands, which keeps an energy step's thrust at its top; with its first call and how many there are."""
     stands = dict(zip((m.number for m in column.flown), column.guard))
-    for run in runs(column.flown, lambda m: 1 if stands[m.number] else None):
+    for run in runs(column.flown, lambda m: m.number if stands[m.number] else None):
         first, last = column.time(run.steps[0][0]), column.time(run.end)
-        box = {"x": first, "y": top, "width": max(last - first, 1.0), "height": bottom - top}
-        add(page, "rect", "guard", **box, **{"data-calls": len(run.steps)})
+        box = (first, top, max(last, first + 1.0), bottom)
+        hatched(page, "guard", box, data_first=run.steps[0][1], data_calls=len(run.steps))
 
 
 def strip_span(strip, limits, numbers, demands):
@@ -155,7 +157,7 @@ def strip_span(strip, limits, numbers, demands):
 
 def stairs(run, column, scale):
     """Points of a line that keeps each number until the next time, the last call's to the end."""
-    end = column.time.high if run.steps[-1][0] == column.flown[-1].time else run.end
+    end = column.time.high if run.steps[-1][0] == column.flown[-1].along else run.end
     points = []
     for n, (time, number) in enumerate(run.steps):
         if n == 0 or number != run.steps[n - 1][1]:
@@ -174,8 +176,8 @@ def draw_limits(page, strip, column, limits, scale):
     if not pairs:
         return
     for side in (0, 1):
-        for run in runs([m for m, _ in limits], lambda m: pairs.get(m.number, (None, None))[side]):
-            path(page, "limit", stairs(run, column, scale))
+        found = runs([m for m, _ in limits], lambda m: pairs.get(m.number, (None, None))[side])
+        paths(page, "limit", [stairs(run, column, scale) for run in found])
     low, high = list(pairs.values())[-1]
     if abs(scale(low) - scale(high)) < 14:
         end_label(page, column, scale(high), f"limits {low:.3g}, {high:.3g}{strip.unit}")
@@ -186,8 +188,7 @@ def draw_limits(page, strip, column, limits, scale):
 
 def draw_demand(page, strip, column, scale):
     found = runs([m for m in column.flown if m.call.kind != "prime"], lambda m: inside(strip.demand(m), scale))
-    for run in found:
-        path(page, "demand", stairs(run, column, scale))
+    paths(page, "demand", [stairs(run, column, scale) for run in found])
     if found:
         last = found[-1].steps[-1][1]
         end_label(page, column, scale(last), f"demand {last:.3g}{strip.unit}")
@@ -221,8 +222,8 @@ def draw_strip(page, strip, column, configuration, top):
         draw_guard(group, column, top, bottom)
     draw_limits(group, strip, column, limits, scale)
     draw_demand(group, strip, column, scale)
-    for run in runs(flown, lambda m: inside(strip.number(m), scale)):
-        path(group, f"line {strip.name}", stairs(run, column, scale))
+    found = runs(flown, lambda m: inside(strip.number(m), scale))
+    paths(group, f"line {strip.name}", [stairs(run, column, scale) for run in found])
     label(page, "ink", column.left, top - 9, strip.title + outside_words(numbers, scale))
     frame(page, "frame", box)
     return scale
@@ -236,7 +237,7 @@ def refusal_groups(column):
     groups = []
     for moment in column.flown:
         if moment.refused:
-            x = column.time(moment.time)
+            x = column.time(moment.along)
             if groups and x - groups[-1][0][-1] < 16:
                 groups[-1][0].append(x)
                 groups[-1][1].append(moment.answer.refusal)
@@ -256,7 +257,7 @@ def draw_refusal_marks(page, column, y):
 def draw_law_marks(page, column, held, fell_back, idle):
     """The places of the rows; the last is that before it where no call is idle."""
     for moment in column.flown:
-        x = column.time(moment.time)
+        x = column.time(moment.along)
         if moment.law == "hold":
             square(page, "mark hold", x, held, 3)
         elif moment.law == "fallback":
@@ -283,25 +284,55 @@ def draw_band(page, column, top):
     return box[3]
 
 
+# ---- the axis of time
+
+
+def ticks(column):
+    """Round seconds, as they are written, each with its place along the axis; in a step that is drawn shorter there is one at most."""
+    apart = steps(column.time.low, column.time.high, MOST_TICKS)[1]
+    found = [("0", 0.0)]
+    for before, moment in zip(column.flown, column.flown[1:]):
+        passed, drawn = moment.time - before.time, moment.along - before.along
+        first, last = math.floor(before.time / apart) + 1, math.floor(moment.time / apart)
+        for n in range(max(first, last) if passed > 2 * drawn else first, last + 1):
+            place, text = before.along + drawn * (n * apart - before.time) / passed, f"{n * apart:.10g}"
+            if column.time(place) - column.time(found[-1][1]) > HALF_LETTER * len(text + found[-1][0]) + 4:
+                found.append((text, place))
+    return found
+
+
+def off_scale_words(flown):
+    """In words: where the axis is not to scale."""
+    refused, long = off_scale(flown)
+    notes = [
+        of_calls(refused, "with a refused time step, counted as 0 s and drawn as the step before"),
+        of_calls(long, f"with a time step of over {LONGEST_STEP} usual ones, drawn as a usual one"),
+    ]
+    return [part for note in notes if note for part in textwrap.wrap(f"Time is not to scale: {note}", NOTE_WIDTH)]
+
+
 def draw_time_axis(page, column, bottom):
-    """Seconds, and below them the number of the call at that time, by which the desk program's lines go."""
-    numbers = [(m.time, m.number) for m in column.flown]
-    for v in steps(column.time.low, column.time.high, 9):
-        number = max(n for t, n in numbers if t <= v + 1e-6)
-        x = column.time(v)
+    """Seconds, below them the number of the call at that time, by which the desk program's lines go, and words; their lowest place."""
+    for seconds, along in ticks(column):
+        number = max(m.number for m in column.flown if m.along <= along + 1e-6)
+        x = column.time(along)
         line(page, "tick", x, bottom, x, bottom + 5)
-        label(page, "soft middle", x, bottom + 18, f"{v:g}")
+        label(page, "soft middle", x, bottom + 18, seconds)
         label(page, "soft middle", x, bottom + 36, f"{number}")
     label(page, "ink", column.right + 14, bottom + 18, "seconds")
     label(page, "ink", column.right + 14, bottom + 36, "call")
+    lowest = bottom + 36
+    for words in off_scale_words(column.flown):
+        lowest += 18
+        label(page, "ink small", column.left, lowest, words)
+    return lowest
 
 
 def draw_over_time(page, column, configuration, top):
-    """The band and every strip, from a place down; the place of the lowest edge."""
+    """The band, every strip and the axis, from a place down; the places of the last strip's lower edge and of the last words."""
     top = draw_band(page, column, top)
     for strip in STRIPS:
         top += column.gap
         draw_strip(page, strip, column, configuration, top)
         top += column.height
-    draw_time_axis(page, column, top)
-    return top
+    return top, draw_time_axis(page, column, top)

@@ -23,7 +23,7 @@ STROKES = {
     ".grid": "grid",
     ".line": "line",
     ".aim, .demand": "aim",
-    ".fallback": "fallback",
+    ".fallback, .guard, .hatching": "fallback",
     ".hold": "hold",
     ".refused": "refused",
     ".ahead": "ahead",
@@ -67,7 +67,7 @@ text { font-family: "DejaVu Sans", Verdana, Arial, sans-serif; font-size: 13px; 
 .over { paint-order: stroke; stroke-width: 3; stroke-linejoin: round; }
 .middle { text-anchor: middle; }
 .end { text-anchor: end; }
-.frame, .grid, .tick, .aim, .line, .limit, .demand, .mark, .place, .ring, .ahead { fill: none; }
+.frame, .grid, .tick, .aim, .line, .limit, .demand, .mark, .place, .ring, .ahead, .hatching { fill: none; }
 .frame, .grid, .tick { stroke-width: 1; }
 .line { stroke-width: 1.6; stroke-linejoin: round; }
 .track { stroke-width: 1; }
@@ -80,8 +80,9 @@ text { font-family: "DejaVu Sans", Verdana, Arial, sans-serif; font-size: 13px; 
 .fallback { stroke-width: 1.4; }
 .hold { stroke-width: 1; }
 .ring { stroke-width: 1; stroke-dasharray: 3 2; }
-.span, .guard { stroke: none; }
-.guard { fill-opacity: 0.25; }
+.span { stroke: none; }
+.guard { stroke-width: 1; fill-opacity: 0.15; }
+.hatching { stroke-width: 1; stroke-opacity: 0.6; }
 .through { stroke-width: 1; stroke-dasharray: 1 4; }
 """
 

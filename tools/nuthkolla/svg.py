@@ -38,8 +38,21 @@ def clipped(parent, name, box):
 
 def path(parent, css, points, **attributes):
     """A line through points."""
-    d = "M" + "L".join(f"{short(float(x))},{short(float(y))}" for x, y in points)
-    return add(parent, "path", css, d=d, **attributes)
+    return paths(parent, css, [points], **attributes)
+
+
+def paths(parent, css, lines, **attributes):
+    """Lines through points, as one element; none where there are none."""
+    d = "".join(line_text([(short(float(x)), short(float(y))) for x, y in points]) for points in lines)
+    return add(parent, "path", css, d=d, **attributes) if d else None
+
+
+def line_text(points):
+    """A line through points as a path has it: level and upright parts by one coordinate."""
+    parts = [f"M{points[0][0]},{points[0][1]}"]
+    for (x, y), (to_x, to_y) in zip(points, points[1:]):
+        parts.append(f"H{to_x}" if to_y == y else f"V{to_y}" if to_x == x else f"L{to_x},{to_y}")
+    return "".join(parts)
 
 
 def cross(parent, css, x, y, size):
@@ -49,6 +62,23 @@ def cross(parent, css, x, y, size):
 
 def square(parent, css, x, y, size):
     return add(parent, "rect", css, x=float(x - size), y=float(y - size), width=2 * size, height=2 * size)
+
+
+HATCHING = 8  # between its lines, across the page
+
+
+def hatched(parent, css, box, **attributes):
+    """A frame, with slanting lines in it where there is room."""
+    left, top, right, bottom = box
+    add(parent, "rect", css, x=left, y=top, width=right - left, height=bottom - top, **attributes)
+    if right - left < HATCHING:
+        return
+    d, along = "", HATCHING * math.ceil((left + top) / HATCHING)
+    while along < right + bottom:
+        x, to_x = max(left, along - bottom), min(right, along - top)
+        d += f"M{short(float(x))},{short(float(along - x))}L{short(float(to_x))},{short(float(along - to_x))}"
+        along += HATCHING
+    add(parent, "path", "hatching", d=d)
 
 
 def head(parent, css, tip, way, size):

@@ -120,6 +120,28 @@ def call_words(call, answer):
     return f"{head}: {words}" if words else head
 
 
+# ---- calls by their numbers
+
+MOST_LISTED = 6
+
+
+def listed(numbers):
+    """Numbers in words: runs as `7 to 9`, and how many more there are."""
+    parts = []
+    for number in numbers:
+        if parts and parts[-1][1] == number - 1:
+            parts[-1][1] = number
+        else:
+            parts.append([number, number])
+    words = [f"{a}" if a == b else f"{a} to {b}" if b > a + 1 else f"{a}, {b}" for a, b in parts[:MOST_LISTED]]
+    left = sum(b - a + 1 for a, b in parts[MOST_LISTED:])
+    return ", ".join(words) + (f" and {left} more" if left else "")
+
+
+def of_calls(found, what):
+    return f"{len(found)} call{'s' * (len(found) > 1)} {what}: {listed([m.number for m in found])}" if found else None
+
+
 # ---- for a page: a call's command, laws and numbers apart
 
 LAWS = {
@@ -127,8 +149,8 @@ LAWS = {
     "loiter": "loiter: round the point, clockwise",
     "idle": "idle: wings level, too slow or a leg without length",
     "energy": "energy: height and airspeed together",
-    "hold": "hold: trim pitch and cruise thrust, a sensor reports no number",
-    "fallback": "fallback: height alone, no usable airspeed",
+    "hold": "hold: trim pitch and cruise thrust, a height, climb, speed or demand is not finite",
+    "fallback": "fallback: height alone, no usable airspeed, or no cruise speed above 0",
 }
 STICKS = {
     "attitude": "sticks, attitude",

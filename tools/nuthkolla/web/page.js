@@ -35,7 +35,7 @@
     return {
       ...r,
       words,
-      time: new Float64Array(bytes(r.time)),
+      along: new Float64Array(bytes(r.along)),
       place: new Float32Array(bytes(r.place)),
       way: new Float32Array(bytes(r.way)),
       from: new Uint32Array(bytes(r.from)),
@@ -134,19 +134,20 @@
       tile.classList.toggle("alarm", data.alarms[name] !== undefined && !data.alarms[name].includes(word(name)));
     }
     slider.value = at + 1;
-    slider.setAttribute("aria-valuetext", word("said"));
+    const parts = (name) => (name === "number" ? at + 1 : word(name));
+    slider.setAttribute("aria-valuetext", word("said").replace(/@(\w+)@/g, (_, name) => parts(name)));
     if (document.activeElement !== number) number.value = at + 1;
     drawPlane(r);
     follow();
     drawAhead(r);
-    const x = unit(scaled(r.scale, r.time[at]));
+    const x = unit(scaled(r.scale, r.along[at]));
     r.cursor.setAttribute("transform", `translate(${x} 0)`);
     if (!timer) speak();
   }
 
   let asked = false;
   function show(call) {
-    at = Math.max(0, Math.min(recordings[shown].time.length - 1, call));
+    at = Math.max(0, Math.min(recordings[shown].along.length - 1, call));
     if (asked) return;
     asked = true;
     requestAnimationFrame(() => { asked = false; draw(); });
@@ -155,12 +156,12 @@
   function pick(n) {
     shown = n;
     document.querySelectorAll(".strips").forEach((e, i) => { e.hidden = i !== n; });
-    slider.max = number.max = recordings[n].time.length;
+    slider.max = number.max = recordings[n].along.length;
     plane.classList.toggle("second", n > 0);
     go(at);
   }
 
-  // ---- playing: as time passes, so many times as fast
+  // ---- playing: as time passes along the strips' axis, so many times as fast
   let timer = 0, clock = 0, last = 0;
   function pause() {
     cancelAnimationFrame(timer);
@@ -168,27 +169,27 @@
     playing.textContent = "Play";
   }
   function tick(now) {
-    const time = recordings[shown].time;
+    const along = recordings[shown].along;
     clock += (Math.min(now - last, 250) / 1000) * Number(by("speed").value);
     last = now;
     let call = at;
-    while (call + 1 < time.length && time[call + 1] <= clock) call++;
+    while (call + 1 < along.length && along[call + 1] <= clock) call++;
     if (call !== at) { at = call; draw(); }
-    if (at + 1 < time.length) timer = requestAnimationFrame(tick);
+    if (at + 1 < along.length) timer = requestAnimationFrame(tick);
     else { pause(); draw(); }
   }
   function play() {
     if (timer) { pause(); draw(); return; }
-    const time = recordings[shown].time;
-    if (at + 1 >= time.length) at = 0;
-    clock = time[at];
+    const along = recordings[shown].along;
+    if (at + 1 >= along.length) at = 0;
+    clock = along[at];
     last = performance.now();
     playing.textContent = "Pause";
     draw();
     timer = requestAnimationFrame(tick);
   }
   function go(call) {
-    clock = recordings[shown].time[Math.max(0, Math.min(recordings[shown].time.length - 1, call))];
+    clock = recordings[shown].along[Math.max(0, Math.min(recordings[shown].along.length - 1, call))];
     show(call);
   }
 
@@ -226,7 +227,7 @@
     PageUp: () => go(at + 100),
     PageDown: () => go(at - 100),
     Home: () => go(0),
-    End: () => go(recordings[shown].time.length - 1),
+    End: () => go(recordings[shown].along.length - 1),
     " ": play,
     n: () => mark(1),
     p: () => mark(-1),
@@ -255,7 +256,7 @@
   }
   function nearest(distance) {
     let found = at, least = Infinity;
-    for (let i = 0; i < recordings[shown].time.length; i++) {
+    for (let i = 0; i < recordings[shown].along.length; i++) {
       const d = distance(i);
       if (d < least) { least = d; found = i; }
     }
@@ -270,7 +271,7 @@
     r.cursor = strips.querySelector(".cursor-at");
     strips.addEventListener("click", (e) => {
       const [x] = placeOf(strips.querySelector(".standing"), e);
-      go(nearest((i) => Math.abs(scaled(r.scale, r.time[i]) - x)));
+      go(nearest((i) => Math.abs(scaled(r.scale, r.along[i]) - x)));
     });
   });
 
