@@ -1,0 +1,2 @@
+-- What the program edition answers to its input.
+pub mod Conversion
