@@ -13,13 +13,17 @@ use Rattle.editions.specs.Edition.{readAs, recordAs, other}
 use Rattle.replay.specs.Recording.{Recorded, Ending, ends, stops, Calls, noCalls, onRead}
 use Rattle.replay.specs.Sizes.{decisive}
 use Rattle.edition.specs.declared.Done.{Done}
-use Rattle.edition.specs.declared.Done.the-variants.{Size, Stopped, Long}
+use Rattle.edition.specs.declared.Done.the-variants.{Size, Stopped, TooLong}
 
 -- The calls of an edition's records from a place on, in their order. A record has a byte or more: as many turns as s has bytes
 -- reach the end.
 unfoldable pub readRecords : ℕ → Edition → List ℕ → ℕ → Calls
 readRecords zero e s at = noCalls ends
 readRecords (suc n) e s at = cond (leb (length s) at) (noCalls ends) (onRead at (readAs e s at) (λ (next : ℕ). readRecords n e s next))
+
+-- those of the records behind the first byte
+abbrev pub records : Edition → List ℕ → Calls
+records e s = readRecords (length s) e s 1
 
 -- each call's record in an edition
 unfoldable pub recordsOf : Edition → List Recorded → List ℕ
@@ -36,10 +40,10 @@ abbrev pub answerTo : List ℕ → ℕ → Ending → Done
 answerTo bytes count ends = Size (length bytes)
 answerTo bytes count (stops r) = Stopped (1 + count) r
 
--- the records behind the first byte: each that was read is written, up to the first that is refused
+-- each call that was read is written, up to the first record that is refused
 unfoldable pub converted : Edition → List ℕ → Conversion
 converted wanted s =
-    let read = readRecords (length s) (other wanted) s 1 in
+    let read = records (other wanted) s in
     let bytes = recordsOf wanted (read .calls) in
     record { bytes = bytes; answer = answerTo bytes (length (read .calls)) (read .ending) }
 
@@ -49,16 +53,18 @@ nothing answer = record { bytes = []; answer = answer }
 -- An input: its first byte is the wanted edition, 1 or 2, else 255. One that fills the program's buffer is refused.
 unfoldable pub conversion : List ℕ → Conversion
 conversion s =
-    cond (leb decisive (length s)) (nothing Long)
+    cond (leb decisive (length s)) (nothing TooLong)
     (cond (eqb (getD s 0 0) 1) (converted First s)
     (cond (eqb (getD s 0 0) 2) (converted Second s)
     (nothing (Stopped 0 255))))
 
--- Bytes were read until the input ended or the buffer was full; `rest` is whatever follows them. The answer, and the bytes that
--- are written, are those of the whole input.
-pub record Converts (read before after : List ℕ) (r : Done) : Type 0 where
-  pub answers : (rest : List ℕ) → (length read < decisive → rest ≡ []) → r ≡ conversion (read ++ rest) .answer
-  pub buffer : (rest : List ℕ) → (length read < decisive → rest ≡ []) → after ≡ putAt before 0 (conversion (read ++ rest) .bytes)
+pub record Answers (input before after : List ℕ) (r : Done) : Type 0 where
+  pub answer : r ≡ conversion input .answer
+  pub buffer : after ≡ putAt before 0 (conversion input .bytes)
   -- what goes to standard output
-  pub output : (rest : List ℕ) → (length read < decisive → rest ≡ []) → (n : ℕ) → r ≡ Size n → take n after ≡ conversion (read ++ rest) .bytes
+  pub output : (n : ℕ) → r ≡ Size n → take n after ≡ conversion input .bytes
   pub within : (n : ℕ) → r ≡ Size n → n ≤ length after
+
+-- Bytes were read until the input ended or the buffer was full; `rest` is whatever follows them: the whole input is answered.
+pub record AnswersWhole (read before after : List ℕ) (r : Done) : Type 0 where
+  pub whole : (rest : List ℕ) → (length read < decisive → rest ≡ []) → Answers (read ++ rest) before after r

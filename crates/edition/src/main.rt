@@ -14,7 +14,7 @@ ghost use Prim.Native.Nat.{_≤_, _<_};
 ghost use lib.ListN.{length};
 ghost use Rattle.fields.specs.Bytes.{putAt};
 ghost use Rattle.replay.specs.Sizes.{decisive};
-ghost use Rattle.edition.specs.Conversion.{converted, Converts};
+ghost use Rattle.edition.specs.Conversion.{converted, AnswersWhole};
 
 const STANDARD_OUTPUT: i32 = 1;
 
@@ -24,7 +24,7 @@ const STANDARD_ERROR: i32 = 2;
 enum Done {
     Size(usize),
     Stopped { number: u32, refusal: u32 },
-    Long,
+    TooLong,
 }
 
 // Converts the records behind the first byte. No record is longer than the one it was read from, so that the buffer has room.
@@ -57,10 +57,10 @@ fn convert_all(s: &[u8], wanted: Edition, out: &mut [u8]) -> Done
 // Answers the input of which these bytes were read. Its first byte is the wanted edition.
 fn convert_file(s: &[u8], out: &mut [u8]) -> Done
     requires { ⌜ length (now s) ≤ length (now out) ⌝ }
-    ensures { λ r. ⌜ Converts (now (s .entry)) (now (out .entry)) (now (out .exit)) r ⌝ }
+    ensures { λ r. ⌜ AnswersWhole (now (s .entry)) (now (out .entry)) (now (out .exit)) r ⌝ }
 {
     if INPUT_ROOM <= s.len() {
-        return Done::Long;
+        return Done::TooLong;
     }
     if 0 < s.len() {
         let wanted = s[0];
@@ -88,7 +88,7 @@ fn main() {
     let mut out = input_room();
     let done = convert_file(&bytes[..size], &mut out);
     match done {
-        Done::Long => {
+        Done::TooLong => {
             io::write_all(
                 STANDARD_ERROR,
                 b"edition: standard input has more than 352393 bytes\n",

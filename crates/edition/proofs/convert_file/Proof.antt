@@ -1,8 +1,7 @@
 -- `convert_file` meets its contract. Assumes nothing.
 use mathlib.Core.Path.{refl}
-use native.Mathlib.Omega.{arith}
 use Rattle.fields.proofs.FieldLaw.{put-none}
-use Rattle.edition.proofs.Law.{converts, is-long, is-first, is-second, is-neither, is-empty}
+use Rattle.edition.proofs.FileLaw.{converts, is-long, is-first, is-second, is-neither, is-empty}
 use borrow.Author.Needs.{needs}
 use Rattle.edition.proofs.convert_file.Statement.{statement}
 use Rattle.edition.proofs.convert_file.Tie as tie
@@ -20,7 +19,9 @@ same-length : tie.Need-same-length
 same-length c = search needs
 
 returns-2 : tie.Need-returns-2
-returns-2 c = converts _ _ _ _ _ (search needs) (is-first _ (search needs) (search needs)) (c .before .before .convert-all .ensures .0) (c .before .before .convert-all .ensures .1)
+returns-2 c =
+    converts _ _ _ _ _ (search needs) (is-first _ (search needs) (search needs))
+    (c .before .before .convert-all .ensures .0) (c .before .before .convert-all .ensures .1)
 
 convert-all-requires-2 : tie.Need-convert-all-requires-2
 convert-all-requires-2 c κs = search needs
@@ -29,7 +30,9 @@ same-length-2 : tie.Need-same-length-2
 same-length-2 c = search needs
 
 returns-3 : tie.Need-returns-3
-returns-3 c = converts _ _ _ _ _ (search needs) (is-second _ (search needs) (search needs)) (c .before .before .convert-all2 .ensures .0) (c .before .before .convert-all2 .ensures .1)
+returns-3 c =
+    converts _ _ _ _ _ (search needs) (is-second _ (search needs) (search needs))
+    (c .before .before .convert-all2 .ensures .0) (c .before .before .convert-all2 .ensures .1)
 
 returns-4 : tie.Need-returns-4
 returns-4 c = converts _ _ _ _ _ (search needs) (is-neither _ (search needs) (search needs) (search needs)) refl (put-none _ 0)

@@ -1,4 +1,6 @@
 -- `main` meets what it calls. Assumes nothing.
+use mathlib.Core.Path.{refl}
+use mathlib.Core.List.{[]}
 use Rattle.input.proofs.Law.{part}
 use Rattle.replay.proofs.CallsLaw.{stopped-count}
 use borrow.Author.Needs.{needs}
@@ -60,10 +62,12 @@ enum-known-done-2 : tie.Need-enum-known-done-2
 enum-known-done-2 c = search needs
 
 array-share-prefix-out : tie.Need-array-share-prefix-out
-array-share-prefix-out c = c .before .before .before .before .convert-file .ensures .within _ (c .before .done2 .given .1)
+array-share-prefix-out c = c .before .before .before .before .convert-file .ensures .whole [] (λ _. refl) .within _ (c .before .done2 .given .1)
 
 slice-aggregate-write-all-3 : tie.Need-slice-aggregate-write-all-3
-slice-aggregate-write-all-3 c = part _ _ (c .before .before .before .before .before .convert-file .ensures .within _ (c .before .before .done2 .given .1))
+slice-aggregate-write-all-3 c =
+    part _ _ (c .before .before .before .before .before .convert-file .ensures .whole [] (λ _. refl) .within _
+    (c .before .before .done2 .given .1))
 
 write-all-requires-3 : tie.Need-write-all-requires-3
 write-all-requires-3 c κs = search needs
