@@ -3,8 +3,7 @@ use mathlib.Core.Path.{_≡_, sym, _∙_}
 use mathlib.Core.List.{List, _++_}
 use Prim.Native.Nat.{ℕ, _+_, _≤_}
 use native.Mathlib.Omega.{arith}
-use lib.ListN.{length, take, length-append}
-use lib.Seq.{length-take-le}
+use lib.ListN.{length, length-append}
 use Rattle.replay.specs.Recording.{recording}
 use Rattle.compaction.specs.Compaction.{compacted, bytesAfter}
 use Rattle.compaction.specs.declared.Compacted.{Compacted}
@@ -16,6 +15,3 @@ pub fits : (s after rest : List ℕ) (r : Compacted) (n : ℕ) → r ≡ compact
 fits s after rest r n e b q =
     let w : n ≤ length after = rw b (within s n (sym e ∙ q)) in
     omega (arith, length-append after rest)
-
-pub part : (n : ℕ) (bytes : List ℕ) → n ≤ length bytes → n ≡ length (take n bytes)
-part n bytes h = sym (length-take-le n bytes h)

@@ -4,26 +4,13 @@ use compaction::Compacted;
 use compaction::compact;
 use input::input_room;
 use input::read_input;
-use lines::Line;
-use lines::put_line;
+use input::tell;
 use replay::turn::refused_line;
 use replay::turn::stopped_line;
-ghost use Prim.Native.Nat.{_≤_};
 
 const STANDARD_OUTPUT: i32 = 1;
 
 const STANDARD_ERROR: i32 = 2;
-
-// No line has more bytes.
-const LINE_ROOM: usize = 80;
-
-fn tell(l: Line)
-    requires { ⌜ l .count ≤ 4 ⌝ }
-{
-    let mut text = [0u8; LINE_ROOM];
-    let n = put_line(&mut text, l);
-    io::write_all(STANDARD_ERROR, &text[..n]);
-}
 
 fn main() {
     let mut bytes = input_room();

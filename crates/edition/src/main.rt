@@ -1,36 +1,36 @@
 // Converts call records: reads from standard input a byte, the wanted edition, and call records one behind the other, and writes
 // them in that edition to standard output. A refusal is told by a line on standard error, with the number of the record, from 1,
-// and leaves standard output empty.
+// and leaves standard output empty; so does input that is longer than the program holds.
 use editions::Converted;
 use editions::Edition;
 use editions::convert;
+use input::INPUT_ROOM;
 use input::input_room;
 use input::read_input;
-use lines::Line;
-use lines::put_line;
+use input::tell;
 use replay::turn::stopped_line;
-ghost use Prim.Native.Nat.{_≤_};
+ghost use mathlib.Core.Path.{_≡_};
+ghost use Prim.Native.Nat.{_≤_, _<_};
 ghost use lib.ListN.{length};
+ghost use Rattle.fields.specs.Bytes.{putAt};
 ghost use Rattle.replay.specs.Sizes.{decisive};
+ghost use Rattle.edition.specs.Conversion.{converted, AnswersWhole};
 
 const STANDARD_OUTPUT: i32 = 1;
 
 const STANDARD_ERROR: i32 = 2;
 
-// No line has more bytes.
-const LINE_ROOM: usize = 80;
-
-// How many bytes were written; or the number of the record that was refused, and its refusal.
-struct Done {
-    size: usize,
-    number: u32,
-    refusal: u32,
+// How many bytes were written; or the number of the record that was refused, and its refusal; or that the input is too long.
+enum Done {
+    Size(usize),
+    Stopped { number: u32, refusal: u32 },
+    TooLong,
 }
 
-// Converts the records behind the first byte.
+// Converts the records behind the first byte. No record is longer than the one it was read from, so that the buffer has room.
 fn convert_all(s: &[u8], wanted: Edition, out: &mut [u8]) -> Done
-    requires { ⌜ length (now s) ≤ decisive ⌝ }
-    ensures { λ r. ⌜ r .size ≤ length (now (out .exit)) ⌝ }
+    requires { ⌜ (length (now s) < decisive) × (length (now s) ≤ length (now out)) ⌝ }
+    ensures { λ r. ⌜ (r ≡ converted wanted (now (s .entry)) .answer) × (now (out .exit) ≡ putAt (now (out .entry)) 0 (converted wanted (now (s .entry)) .bytes)) ⌝ }
 {
     let mut at: usize = 1;
     let mut to: usize = 0;
@@ -39,8 +39,7 @@ fn convert_all(s: &[u8], wanted: Edition, out: &mut [u8]) -> Done
         let done = convert(s, at, wanted, out, to);
         match done {
             Converted::Refused(r) => {
-                return Done {
-                    size: 0,
+                return Done::Stopped {
                     number: n,
                     refusal: r as u32,
                 };
@@ -52,18 +51,17 @@ fn convert_all(s: &[u8], wanted: Edition, out: &mut [u8]) -> Done
             }
         }
     }
-    Done {
-        size: to,
-        number: 0,
-        refusal: 0,
-    }
+    Done::Size(to)
 }
 
-// The first byte is the wanted edition.
+// Answers the input of which these bytes were read. Its first byte is the wanted edition.
 fn convert_file(s: &[u8], out: &mut [u8]) -> Done
-    requires { ⌜ length (now s) ≤ decisive ⌝ }
-    ensures { λ r. ⌜ r .size ≤ length (now (out .exit)) ⌝ }
+    requires { ⌜ length (now s) ≤ length (now out) ⌝ }
+    ensures { λ r. ⌜ AnswersWhole (now (s .entry)) (now (out .entry)) (now (out .exit)) r ⌝ }
 {
+    if INPUT_ROOM <= s.len() {
+        return Done::TooLong;
+    }
     if 0 < s.len() {
         let wanted = s[0];
         if wanted == 1 {
@@ -73,19 +71,10 @@ fn convert_file(s: &[u8], out: &mut [u8]) -> Done
             return convert_all(s, Edition::Second, out);
         }
     }
-    Done {
-        size: 0,
+    Done::Stopped {
         number: 0,
         refusal: 255,
     }
-}
-
-fn tell(l: Line)
-    requires { ⌜ l .count ≤ 4 ⌝ }
-{
-    let mut text = [0u8; LINE_ROOM];
-    let n = put_line(&mut text, l);
-    io::write_all(STANDARD_ERROR, &text[..n]);
 }
 
 fn main() {
@@ -98,15 +87,21 @@ fn main() {
     let size = got.size;
     let mut out = input_room();
     let done = convert_file(&bytes[..size], &mut out);
-    if done.refusal != 0 {
-        tell(stopped_line(done.number, done.refusal));
-        return;
-    }
-    let n = done.size;
-    if !io::write_all(STANDARD_OUTPUT, &out[..n]) {
-        io::write_all(
-            STANDARD_ERROR,
-            b"edition: standard output cannot be written\n",
-        );
+    match done {
+        Done::TooLong => {
+            io::write_all(
+                STANDARD_ERROR,
+                b"edition: standard input has more than 352393 bytes\n",
+            );
+        }
+        Done::Stopped { number, refusal } => tell(stopped_line(number, refusal)),
+        Done::Size(n) => {
+            if !io::write_all(STANDARD_OUTPUT, &out[..n]) {
+                io::write_all(
+                    STANDARD_ERROR,
+                    b"edition: standard output cannot be written\n",
+                );
+            }
+        }
     }
 }

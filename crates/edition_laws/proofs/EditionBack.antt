@@ -260,3 +260,21 @@ edition-longest Second = second-longest
 pub edition-held : (e : Edition) (s : List ℕ) (at : ℕ) (c : Call) (next : ℕ) → readAs e s at ≡ Read c next → CallF32 c
 edition-held First s at c next e = held s at c next (as-call s at c next e)
 edition-held Second s at c next e = second-held s at c next e
+
+-- a record of the edition at the front of what stands from a place on
+pub edition-stands : (e : Edition) (s : List ℕ) (at : ℕ) (c : Call) (rest : List ℕ) → at ≤ length s → drop at s ≡ recordAs e c ++ rest → CallF32 c
+    → readAs e s at ≡ Read c (at + length (recordAs e c))
+edition-stands First = first-stands
+edition-stands Second = second-stands
+
+-- what was read lies in the string
+pub edition-within : (e : Edition) (s : List ℕ) (at : ℕ) (c : Call) (next : ℕ) → readAs e s at ≡ Read c next → next ≤ length s
+edition-within First s at c next q = call-within s at c next (as-call s at c next q) .1
+edition-within Second s at c next q = omega (arith, room s at c next q, read-is s at c next q .4)
+
+-- a call's record has one length in both editions
+pub edition-same : (e w : Edition) (c : Call) → length (recordAs e c) ≡ length (recordAs w c)
+edition-same First First c = refl
+edition-same First Second c = rw (first-is c) (sym (same-long c))
+edition-same Second First c = rw (first-is c) (same-long c)
+edition-same Second Second c = refl

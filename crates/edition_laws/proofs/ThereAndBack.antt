@@ -23,7 +23,7 @@ use Rattle.editions.specs.Edition.{readAs, recordAs, other, places, answer, buf
 use Rattle.edition_laws.specs.Laws.{convertedTo, after, Converts, ThereAndBack, Kept}
 use Rattle.edition_laws.proofs.EditionBack.{edition-laws, edition-long, edition-held}
 
-other-twice : (e : Edition) → other (other e) ≡ e
+pub other-twice : (e : Edition) → other (other e) ≡ e
 other-twice First = refl
 other-twice Second = refl
 

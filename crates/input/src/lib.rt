@@ -1,14 +1,24 @@
-// A recording from standard input, or from another descriptor: as many bytes as decide what the programs answer.
+// What the programs desk, compact, agree and edition share: input, as many bytes as decide what they answer, and the line that
+// tells a refusal.
+use lines::Line;
+use lines::put_line;
 ghost use mathlib.Core.Path.{_≡_};
+ghost use Prim.Native.Nat.{_≤_};
 ghost use lib.ListN.{length};
 ghost use Rattle.io.specs.Counts.{Counts};
 ghost use Rattle.replay.specs.Sizes.{decisive};
 
 // One byte more than the largest recording that can be read to its end: 137 bytes of configuration and 4,096 calls of
-// 86 bytes. Input left after these is number 9 whatever it is, so the rest is not read.
-const INPUT_ROOM: usize = 352394;
+// 86 bytes. To desk, compact and agree input left after these is number 9 whatever it is, so the rest is not read; edition has
+// no limit of calls, and refuses input that fills the room.
+pub const INPUT_ROOM: usize = 352394;
+
+// No line has more bytes.
+const LINE_ROOM: usize = 80;
 
 const STANDARD_INPUT: i32 = 0;
+
+const STANDARD_ERROR: i32 = 2;
 
 // How many bytes were read, and whether a read failed after them.
 pub struct Input {
@@ -51,4 +61,13 @@ pub fn read_from(descriptor: i32, buffer: &mut [u8]) -> Input
         size,
         failed: false,
     }
+}
+
+// A line on standard error.
+pub fn tell(l: Line)
+    requires { ⌜ l .count ≤ 4 ⌝ }
+{
+    let mut text = [0u8; LINE_ROOM];
+    let n = put_line(&mut text, l);
+    io::write_all(STANDARD_ERROR, &text[..n]);
 }

@@ -1,5 +1,6 @@
 use Rattle.replay.proofs.CallsLaw.{stopped-count, refused-count}
-use Rattle.compact.proofs.Law.{fits, part}
+use Rattle.input.proofs.Law.{part}
+use Rattle.compact.proofs.Law.{fits}
 use borrow.Author.Needs.{needs}
 use Rattle.compact.proofs.main.Statement.{statement}
 use Rattle.compact.proofs.main.Tie as tie

@@ -1,5 +1,8 @@
+-- `main` meets what it calls. Assumes nothing.
+use mathlib.Core.Path.{refl}
+use mathlib.Core.List.{[]}
+use Rattle.input.proofs.Law.{part}
 use Rattle.replay.proofs.CallsLaw.{stopped-count}
-use Rattle.edition.proofs.Law.{part}
 use borrow.Author.Needs.{needs}
 use Rattle.edition.proofs.main.Statement.{statement}
 use Rattle.edition.proofs.main.Tie as tie
@@ -37,35 +40,55 @@ slice-aggregate-convert-file-2 c = search needs
 convert-file-requires : tie.Need-convert-file-requires
 convert-file-requires c κs = search needs
 
+enum-told : tie.Need-enum-told
+enum-told c = search needs
+
+slice-aggregate-write-all-2 : tie.Need-slice-aggregate-write-all-2
+slice-aggregate-write-all-2 c = search needs
+
+write-all-requires-2 : tie.Need-write-all-requires-2
+write-all-requires-2 c κs = search needs
+
+enum-known-done : tie.Need-enum-known-done
+enum-known-done c = search needs
+
 stopped-line-requires : tie.Need-stopped-line-requires
 stopped-line-requires c κs = search needs
 
 tell-requires : tie.Need-tell-requires
 tell-requires c κs = rw (c .stopped-line .ensures) (stopped-count _ _)
 
-returns-2 : tie.Need-returns-2
-returns-2 c = search needs
+enum-known-done-2 : tie.Need-enum-known-done-2
+enum-known-done-2 c = search needs
 
 array-share-prefix-out : tie.Need-array-share-prefix-out
-array-share-prefix-out c = search needs
-
-slice-aggregate-write-all-2 : tie.Need-slice-aggregate-write-all-2
-slice-aggregate-write-all-2 c = part _ _ (c .before .before .before .before .convert-file .ensures)
-
-write-all-requires-2 : tie.Need-write-all-requires-2
-write-all-requires-2 c κs = search needs
+array-share-prefix-out c = c .before .before .before .before .convert-file .ensures .whole [] (λ _. refl) .within _ (c .before .done2 .given .1)
 
 slice-aggregate-write-all-3 : tie.Need-slice-aggregate-write-all-3
-slice-aggregate-write-all-3 c = search needs
+slice-aggregate-write-all-3 c =
+    part _ _ (c .before .before .before .before .before .convert-file .ensures .whole [] (λ _. refl) .within _
+    (c .before .before .done2 .given .1))
 
 write-all-requires-3 : tie.Need-write-all-requires-3
 write-all-requires-3 c κs = search needs
+
+slice-aggregate-write-all-4 : tie.Need-slice-aggregate-write-all-4
+slice-aggregate-write-all-4 c = search needs
+
+write-all-requires-4 : tie.Need-write-all-requires-4
+write-all-requires-4 c κs = search needs
+
+returns-2 : tie.Need-returns-2
+returns-2 c = search needs
 
 returns-3 : tie.Need-returns-3
 returns-3 c = search needs
 
 returns-4 : tie.Need-returns-4
 returns-4 c = search needs
+
+returns-5 : tie.Need-returns-5
+returns-5 c = search needs
 
 pub main-spec : {M : Type 1} → statement M
 main-spec =
@@ -82,13 +105,19 @@ main-spec =
     slice-aggregate-convert-file
     slice-aggregate-convert-file-2
     convert-file-requires
-    stopped-line-requires
-    tell-requires
-    returns-2
-    array-share-prefix-out
+    enum-told
     slice-aggregate-write-all-2
     write-all-requires-2
+    enum-known-done
+    stopped-line-requires
+    tell-requires
+    enum-known-done-2
+    array-share-prefix-out
     slice-aggregate-write-all-3
     write-all-requires-3
+    slice-aggregate-write-all-4
+    write-all-requires-4
+    returns-2
     returns-3
-    returns-4)
+    returns-4
+    returns-5)

@@ -1,9 +1,10 @@
+-- `tell` meets its contract. Assumes nothing.
 use native.Mathlib.Omega.{arith}
 use Rattle.lines.proofs.TextLaw.{text-short}
-use Rattle.compact.proofs.Law.{part}
+use Rattle.input.proofs.Law.{part}
 use borrow.Author.Needs.{needs}
-use Rattle.compact.proofs.tell.Statement.{statement}
-use Rattle.compact.proofs.tell.Tie as tie
+use Rattle.input.proofs.tell.Statement.{statement}
+use Rattle.input.proofs.tell.Tie as tie
 
 slice-aggregate-put-line : tie.Need-slice-aggregate-put-line
 slice-aggregate-put-line c = search needs

@@ -1,0 +1,3 @@
+-- What the program edition answers to its input.
+pub mod Conversion
+pub mod Laws
