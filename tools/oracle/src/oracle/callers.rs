@@ -137,7 +137,7 @@ fn settings(random: &mut Random) -> Vec<u8> {
 
 fn extra(random: &mut Random) -> Vec<u8> {
     let tagged = |tag: u8, rest: Vec<u8>| [vec![tag], rest].concat();
-    match random.below(10) {
+    match random.below(11) {
         0 => vec![MODE],
         1 => vec![GUARD],
         2 => tagged(NEW, settings(random)),
@@ -151,15 +151,28 @@ fn extra(random: &mut Random) -> Vec<u8> {
             bytes.truncate(random.below(bytes.len()));
             tagged(CALL, bytes)
         }
+        9 => route::any_load(random),
         _ => tagged(CALL, record::call_bytes(&waypoint(random))),
     }
 }
 
-fn send(random: &mut Random, bytes: &mut Vec<u8>, entry: &[u8]) {
-    let stranger = random.pick(&[3, 4, 128, 255]);
-    bytes.push(random.pick(&[0, 0, 0, 1, 1, 2, stranger]));
+fn send(bytes: &mut Vec<u8>, caller: u8, entry: &[u8]) {
+    bytes.push(caller);
     bytes.extend((entry.len() as u16).to_le_bytes());
     bytes.extend(entry);
+}
+
+fn anyone(random: &mut Random) -> u8 {
+    let stranger = random.pick(&[3, 4, 128, 255]);
+    random.pick(&[0, 0, 0, 1, 1, 2, stranger])
+}
+
+/// Who sends what stands between the route's own entries: no load of the skipper's, which would break off the flight.
+fn sender(random: &mut Random, entry: &[u8]) -> u8 {
+    match anyone(random) {
+        0 if entry[0] == LOAD => random.pick(&[1, 2, 3]),
+        caller => caller,
+    }
 }
 
 /// The entries of a list with routes, and others between them, each by a caller drawn at random.
@@ -171,9 +184,9 @@ pub fn generate(seed: u64, entries: usize) -> Vec<u8> {
     bytes.extend(&list[..place]);
     while place < list.len() {
         let end = place + size(&list[place..]);
-        send(random, &mut bytes, &list[place..end]);
+        send(&mut bytes, anyone(random), &list[place..end]);
         let entry = extra(random);
-        send(random, &mut bytes, &entry);
+        send(&mut bytes, sender(random, &entry), &entry);
         place = end;
     }
     bytes

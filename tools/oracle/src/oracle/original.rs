@@ -1,4 +1,4 @@
-//! The Rust with f32's own min, max and clamp: what it does from the oracle's state.
+//! The Rust with f32's own min, max and clamp and its own ties: what it does from the oracle's state.
 
 use std::any::Any;
 use std::panic::{AssertUnwindSafe, catch_unwind, set_hook, take_hook};
@@ -9,7 +9,7 @@ use crate::flown::{Flown, Setpoint, State, judge, original};
 use crate::guidance::{self, Answer};
 use crate::record::{self, Call, Command, Regime, bits};
 
-/// The Rust with f32's own min, max and clamp, from a state: its setpoint and state, or its panic.
+/// The Rust with f32's own min, max and clamp and its own ties, from a state: its setpoint and state, or its panic.
 pub fn step(
     numbers: &Numbers,
     before: &State,

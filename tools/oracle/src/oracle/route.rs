@@ -309,13 +309,17 @@ fn some_bits(random: &mut Random, count: u32) -> u32 {
     map
 }
 
-fn record_of(random: &mut Random) -> (Vec<u8>, Vec<Point>) {
-    let long = random.once_in(3);
-    let (few, more) =
-        if long { random.pick(&[(0, 1), (0, 3), (1, 1), (2, 1), (6, 2), (31, 31), (31, 31)]) } else { (0, 0) };
-    let first = if long { few } else { random.pick(&[1, 1, 2, 2, 3, 4, 6, 31]) };
-    let (first, second) = (some_bits(random, first), some_bits(random, more));
-    let count = (first.count_ones() + second.count_ones()) as usize;
+/// The bits of the first map and of the second; of the second none, two times in three.
+fn maps(random: &mut Random) -> (u32, u32) {
+    let (few, more) = if random.once_in(3) {
+        random.pick(&[(0, 1), (0, 3), (1, 1), (2, 1), (6, 2), (31, 31), (31, 31)])
+    } else {
+        (random.pick(&[1, 1, 2, 2, 3, 4, 6, 31]), 0)
+    };
+    (some_bits(random, few), some_bits(random, more))
+}
+
+fn points_of(random: &mut Random, count: usize) -> Vec<Point> {
     let spread = random.pick(&[1.0, 60.0, 300.0, 3e38]);
     let mut points: Vec<Point> = Vec::new();
     for n in 0..count {
@@ -329,23 +333,50 @@ fn record_of(random: &mut Random) -> (Vec<u8>, Vec<Point>) {
             [random.between(-spread, spread).round(), east, random.between(20.0, 120.0), speed]
         });
     }
-    let mut bytes = map_bytes(first, second);
-    let front = bytes.len();
-    bytes.extend(points.iter().flatten().flat_map(|number| number.to_le_bytes()));
-    match random.below(16) {
+    points
+}
+
+/// One fault of a record whose maps have so many bytes: of its end, of its last map or of its numbers.
+fn damage(random: &mut Random, bytes: &mut Vec<u8>, front: usize) {
+    match random.below(7) {
         0 => bytes.truncate(random.below(bytes.len())),
         1 => bytes[front - 1] |= 0x80,
         2 => bytes[front - 4..front].fill(0),
         3 => {
-            let at = front + 4 * random.below(4 * count);
+            let at = front + 4 * random.below((bytes.len() - front) / 4);
             bytes[at..at + 4]
                 .copy_from_slice(&random.pick(&[f32::NAN, f32::INFINITY, f32::NEG_INFINITY]).to_le_bytes());
         }
-        4 => bytes.push(7),
-        5 => bytes.truncate(random.below(front + 1)),
-        _ => {}
+        4 => bytes.truncate(random.below(4)),
+        5 => bytes.truncate(front - 4 + random.below(4)),
+        _ => bytes.truncate(front + random.below(bytes.len() - front)),
+    }
+}
+
+/// A record, and the points that it has or, where it is damaged, had.
+fn record_of(random: &mut Random, damaged: bool) -> (Vec<u8>, Vec<Point>) {
+    let (first, second) = maps(random);
+    let points = points_of(random, (first.count_ones() + second.count_ones()) as usize);
+    let mut bytes = map_bytes(first, second);
+    let front = bytes.len();
+    bytes.extend(points.iter().flatten().flat_map(|number| number.to_le_bytes()));
+    if damaged {
+        damage(random, &mut bytes, front);
+    } else if random.once_in(12) {
+        bytes.push(7);
     }
     (bytes, points)
+}
+
+/// The entry that loads a record.
+fn load(record: &[u8]) -> Vec<u8> {
+    [&[3], &(record.len() as u16).to_le_bytes()[..], record].concat()
+}
+
+/// A loading of a record, half of them damaged.
+pub fn any_load(random: &mut Random) -> Vec<u8> {
+    let damaged = random.once_in(2);
+    load(&record_of(random, damaged).0)
 }
 
 /// A position near a point, at the exact radius from the first, abeam of a point, or anywhere.
@@ -416,10 +447,9 @@ pub fn generate(seed: u64, entries: usize) -> Vec<u8> {
             }
             3 => bytes.push(2),
             20 | 21 if n >= flown_until => {
-                let (record, made) = record_of(random);
-                bytes.push(3);
-                bytes.extend((record.len() as u16).to_le_bytes());
-                bytes.extend(&record);
+                let damaged = random.once_in(3);
+                let (record, made) = record_of(random, damaged);
+                bytes.extend(load(&record));
                 if Route::read(&record, 0).is_ok() {
                     points = made;
                     flown_until = if points.len() > 31 { n + 8 * points.len() } else { 0 };
@@ -430,6 +460,8 @@ pub fn generate(seed: u64, entries: usize) -> Vec<u8> {
                 bytes.extend((random.below(1200) as u16).to_le_bytes());
                 bytes.extend((random.below(70) as u16).to_le_bytes());
             }
+            // Loadings that are refused keep the route, so they may come at any time.
+            23 | 24 => bytes.extend(load(&record_of(random, true).0)),
             _ => {
                 let at = position(random, &points, numbers[LOITER_RADIUS]);
                 bytes.push(4);

@@ -1,5 +1,5 @@
 //! Runs inputs through the three copies of the guidance and counts: which calls were met, which
-//! way each condition went, and where the Rust with f32's own min, max and clamp differs.
+//! way each condition went, and where the Rust with f32's own min, max and clamp and its own ties differs.
 
 use std::collections::BTreeMap;
 
@@ -166,7 +166,7 @@ impl Tally {
         }
     }
 
-    /// The Rust with f32's own min, max and clamp, from the same state: what would it do?
+    /// The Rust with f32's own min, max and clamp and its own ties, from the same state: what would it do?
     fn compare_original(&mut self, pair: &Pair, call: &Call, before: &State, answer: &Result<Answer, u32>) {
         let Call::Guide { regime, time_step, command } = call else {
             return;
