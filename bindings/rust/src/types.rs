@@ -372,7 +372,8 @@ pub struct Answer {
 ///
 /// A call without the right is refused with 13 before anything else is looked at, and changes nothing. Whatever replays records or
 /// draws a path acts as the skipper and takes no caller: [`compact`](crate::compact), [`agree`](crate::agree),
-/// [`draw_path`](crate::PlaneGuidance::draw_path).
+/// [`draw_path`](crate::PlaneGuidance::draw_path). What has neither guidance nor route, as a record that is written, read or converted,
+/// asks for no right.
 #[derive(Clone, Copy, Debug, PartialEq, Eq)]
 pub enum Caller {
     Skipper,
