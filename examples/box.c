@@ -1,7 +1,8 @@
 /* Plays the flight box: it flies a simple plane along a search pattern, sends every call to the display as a record, and
  * works out the setpoints itself. Records go to standard output, lines to the named file.
  *     box LINES | display > LINES2
- * The records are a desk recording: one configuration, then calls. */
+ * The records are a desk recording: one configuration, then calls. It is built where it stands, since it prints its lines with
+ * tools/host/lines.h, and with -lm for the plane that it flies: the library needs no maths library. */
 #include "../tools/host/lines.h"
 
 #include <math.h>

@@ -5,7 +5,8 @@
  *   - a pointer points to as many initialised bytes as its length says, and is not null even where that is 0;
  *   - a pointer to a guidance points to an initialised one, before NUTHKOLLA_NEW too (zeros will do);
  *   - what two pointers of one call point to does not overlap;
- *   - the stack has room, 2 kB, for nuthkolla_agree 6 kB (docs/HOST.md has the figures);
+ *   - the stack has room, 2 kB, for nuthkolla_compact 3 kB and for nuthkolla_agree 6 kB (docs/HOST.md has the figures), and for
+ *     what the C library takes to bind memcpy and memset where that is left to their first call (not with -z now);
  *   - one guidance is used from one thread at a time; two guidances can be used from two threads at once.
  * Nothing is allocated, no file or clock is read, no other memory is kept or changed. docs/ARCHITECTURE.md,
  * "What is proved and what is trusted", says the rest.
@@ -119,9 +120,9 @@ typedef struct nuthkolla_tecs {
     float steady_accel_mps2;
 } nuthkolla_tecs;
 
-/* A guidance is made by nuthkolla_run(.., NUTHKOLLA_NEW, ..) and changed by nuthkolla_run alone. It can be
- * copied, stored and sent as bytes. Other initialised bytes in its place get defined answers too, but none of
- * what is proved about lists of calls holds for them. */
+/* A guidance is made by nuthkolla_run(.., NUTHKOLLA_NEW, ..) and changed by nuthkolla_run and nuthkolla_run_route
+ * alone. It can be copied, stored and sent as bytes. Other initialised bytes in its place get defined answers too,
+ * but none of what is proved about lists of calls holds for them. */
 typedef struct nuthkolla_guidance {
     nuthkolla_config config;
     uint32_t requested; /* the regime of the last accepted guide call: 0 copter, not 0 plane */
@@ -153,7 +154,9 @@ typedef struct nuthkolla_guidance {
  *
  * A call without the right is refused with 13 and changes no guidance, route, number or buffer. What is proved: of every list of
  * calls by any callers, the others answer as if the refused ones, or all that watchers sent, were not there. Whatever replays
- * records or draws a path acts as the skipper and takes no caller: nuthkolla_compact, nuthkolla_draw_path, the desk program. */
+ * records or draws a path acts as the skipper and takes no caller: nuthkolla_compact, nuthkolla_agree, nuthkolla_draw_path, the
+ * desk program and the tools over it. The rest has neither guidance nor route, and so no right to ask for: nuthkolla_write_call,
+ * nuthkolla_write_config, nuthkolla_read_config, nuthkolla_convert_record, nuthkolla_default_config, nuthkolla_validate. */
 enum { NUTHKOLLA_SKIPPER = 0, NUTHKOLLA_DECKHAND = 1, NUTHKOLLA_WATCHER = 2 };
 
 /* ---- calls on a guidance */
@@ -174,14 +177,16 @@ typedef struct nuthkolla_answer {
     uint32_t refusal;  /* 0, or the refusal's number */
     uint32_t field;    /* of refusal 1 the failing field's number, 1 to 35, else 0 */
     uint32_t setpoint; /* 0 none, 1 plane setpoint, 2 plane rate setpoint */
-    uint32_t lateral;  /* of a waypoint 1 track, 2 loiter, 3 idle (no leg to speak of, or too slow); else 0 */
+    uint32_t lateral;  /* of a waypoint 1 track, 2 loiter, 3 idle (a leg of length up to 1e-6, or a ground speed below 1.0 or NaN);
+                          else 0 */
     uint32_t vertical; /* of a waypoint 1 energy, 2 hold, 3 fallback; else 0 */
     float roll;        /* rad; of a plane rate setpoint rad/s */
     float pitch;       /* rad; of a plane rate setpoint rad/s */
     float yaw;         /* 0; of a plane rate setpoint rad/s */
     float thrust;      /* 0 to 1 */
     float cross_track_m; /* of a waypoint the distance off its line, the leg or the loiter's tangent: m, right positive; may be
-                            infinite or NaN; +0 where it is idle or within 1e-3 m of a loiter's centre; else 0 */
+                            infinite or NaN; +0 where it is idle or within 1e-3 m of a loiter's centre; with a finite offset from the
+                            waypoint a zero too where the leg's or, of a loiter, the offset's length overflows; else 0 */
     size_t next;       /* the place after the record; 0 where no record was read (refusals 13, 5, 6, 7, 255; a taking back) */
 } nuthkolla_answer;
 

@@ -1,5 +1,6 @@
 /* The header's sizes, places and numbers, to be compared with tools/host/layout.txt, which has the layout that the archive's
- * functions read: fields in order, four bytes each, no padding but before a size_t. layout.rs prints the Rust wrapper's. */
+ * functions read: fields in order, four bytes each but for a size_t and a route's map, no padding but before a size_t and at the
+ * end. layout.rs prints the Rust wrapper's. */
 #include "nuthkolla.h"
 
 #include <stdio.h>
@@ -103,6 +104,10 @@ int main(void)
     AT(nuthkolla_config_read, refusal);
     AT(nuthkolla_config_read, next);
     AT(nuthkolla_config_read, config);
+    SIZE(nuthkolla_route);
+    AT(nuthkolla_route, map);
+    AT(nuthkolla_route, number);
+    AT(nuthkolla_route, numbers);
     SIZE(nuthkolla_route_loaded);
     AT(nuthkolla_route_loaded, refusal);
     AT(nuthkolla_route_loaded, number);
@@ -157,8 +162,25 @@ int main(void)
     NUMBER(NUTHKOLLA_SET_CONFIG);
     NUMBER(NUTHKOLLA_NEW);
     NUMBER(NUTHKOLLA_TAKE_BACK);
+    NUMBER(NUTHKOLLA_NO_SETPOINT);
+    NUMBER(NUTHKOLLA_PLANE);
+    NUMBER(NUTHKOLLA_PLANE_RATE);
+    NUMBER(NUTHKOLLA_TRACK);
+    NUMBER(NUTHKOLLA_LOITER);
+    NUMBER(NUTHKOLLA_IDLE);
+    NUMBER(NUTHKOLLA_ENERGY);
+    NUMBER(NUTHKOLLA_HOLD);
+    NUMBER(NUTHKOLLA_FALLBACK);
+    NUMBER(NUTHKOLLA_UNKNOWN);
     NUMBER(NUTHKOLLA_CALL_BYTES);
     NUMBER(NUTHKOLLA_CONFIG_BYTES);
+    NUMBER(NUTHKOLLA_PRIME);
+    NUMBER(NUTHKOLLA_ATTITUDE);
+    NUMBER(NUTHKOLLA_RATE);
+    NUMBER(NUTHKOLLA_WAYPOINT);
+    NUMBER(NUTHKOLLA_ABSOLUTE_ATTITUDE);
+    NUMBER(NUTHKOLLA_LAND);
+    NUMBER(NUTHKOLLA_ABSOLUTE_RATE);
     NUMBER(NUTHKOLLA_ROUTE_BYTES);
     NUMBER(NUTHKOLLA_ROUTE_NUMBERS);
     NUMBER(NUTHKOLLA_PATH_STEPS);

@@ -2,7 +2,8 @@
  * says, and every number of the buffer, which held 0, 1, .. as bits.
  *     paths MOST < LIST
  *     paths at CALL STEPS [ROOM] < RECORDING      the path at one call of a recording, a line for each point
- * The guidance is passed by value; that the caller's stays as it was is checked all the same. */
+ * The guidance is passed by value; that the caller's stays as it was is checked all the same. At each of these calls it is held too
+ * that another kind is refused with 255 and a regime above 1 with 7. */
 #include "nuthkolla.h"
 #include "records.h"
 
@@ -51,14 +52,39 @@ static void print_told(const nuthkolla_path *p)
         printf("drawn %zu stopped %zu refused %u", p->drawn, p->stopped, p->reason);
 }
 
+static void fill(float *buffer)
+{
+    for (uint32_t i = 0; i < ROOM; i++)
+        memcpy(&buffer[i], &i, 4);
+}
+
+/* Refused with this number, whatever the steps and the room, and the buffer kept. */
+static void must_refuse(uint32_t number, const nuthkolla_guidance *g, nuthkolla_call call, size_t steps, float *buffer, size_t room)
+{
+    nuthkolla_path p = nuthkolla_draw_path(*g, call, steps, buffer, room);
+    if (p.refusal != number || p.reason != 0 || p.drawn != 0 || p.stopped != 0 || !kept(buffer, 0)) {
+        printf("kind %u, regime %u: refusal %u in place of %u\n", call.kind, call.regime, p.refusal, number);
+        exit(1);
+    }
+}
+
+/* 7 for a regime above 1, and before it 255 for a kind other than a waypoint: one of 0 to 7 by the call's number. */
+static void refuse_others(unsigned long n, const nuthkolla_guidance *g, nuthkolla_call call, size_t steps, float *buffer, size_t room)
+{
+    call.regime = 2;
+    must_refuse(7, g, call, steps, buffer, room);
+    call.kind = (uint32_t)(NUTHKOLLA_WAYPOINT + 1 + n % 7) % 8;
+    must_refuse(NUTHKOLLA_UNKNOWN, g, call, steps, buffer, room);
+}
+
 static void print_path(unsigned long n, const nuthkolla_guidance *g, nuthkolla_call call, size_t most)
 {
     size_t steps, room;
     sizes(n, most, &steps, &room);
     float buffer[ROOM];
-    for (uint32_t i = 0; i < ROOM; i++)
-        memcpy(&buffer[i], &i, 4);
+    fill(buffer);
     nuthkolla_guidance before = *g;
+    refuse_others(n, g, call, steps, buffer, room);
     nuthkolla_path p = nuthkolla_draw_path(*g, call, steps, buffer, room);
     if (memcmp(&before, g, sizeof before) != 0) {
         printf("the guidance is changed\n");
@@ -76,8 +102,7 @@ static void print_path(unsigned long n, const nuthkolla_guidance *g, nuthkolla_c
 static int at_call(unsigned long call, size_t steps, size_t room, size_t length)
 {
     static float buffer[ROOM];
-    for (uint32_t i = 0; i < ROOM; i++)
-        memcpy(&buffer[i], &i, 4);
+    fill(buffer);
     nuthkolla_guidance g = {0};
     nuthkolla_answer a = nuthkolla_run(&g, NUTHKOLLA_SKIPPER, NUTHKOLLA_NEW, input, length);
     size_t place = a.next;
@@ -85,7 +110,9 @@ static int at_call(unsigned long call, size_t steps, size_t room, size_t length)
         nuthkolla_guidance before = g;
         a = nuthkolla_run(&g, NUTHKOLLA_SKIPPER, NUTHKOLLA_CALL, input + place, length - place);
         if (a.next != 0 && n == call && input[place + 4] == NUTHKOLLA_WAYPOINT) {
-            nuthkolla_path p = nuthkolla_draw_path(before, call_of(input + place), steps, buffer, room < ROOM ? room : ROOM);
+            room = room < ROOM ? room : ROOM;
+            refuse_others(n, &before, call_of(input + place), steps, buffer, room);
+            nuthkolla_path p = nuthkolla_draw_path(before, call_of(input + place), steps, buffer, room);
             printf("path %u %zu %zu %u\n", p.refusal, p.drawn, p.stopped, p.reason);
             for (size_t i = 0; i < p.drawn; i++)
                 printf("%08x %08x %08x\n", bits_of(buffer[3 * i]), bits_of(buffer[3 * i + 1]), bits_of(buffer[3 * i + 2]));

@@ -1,4 +1,4 @@
-//! include/nuthkolla.h, declared again. Sizes and places are held against the header's by tools/host/layout.txt.
+//! include/nuthkolla.h, declared again. Sizes, places and numbers are held against the header's by tools/host/layout.txt.
 
 #[repr(C)]
 #[derive(Clone, Copy, Debug, Default, PartialEq)]
@@ -82,6 +82,15 @@ pub struct ConfigRead {
     pub refusal: u32,
     pub next: usize,
     pub config: crate::PlaneGuidanceConfig,
+}
+
+/// A route as a host holds it; no function takes it whole.
+#[repr(C)]
+#[derive(Clone, Copy, Debug, PartialEq)]
+pub struct Route {
+    pub map: u64,
+    pub number: u32,
+    pub numbers: [f32; crate::ROUTE_NUMBERS],
 }
 
 #[repr(C)]
@@ -171,6 +180,27 @@ pub const CALL: u32 = 0;
 pub const SET_CONFIG: u32 = 1;
 pub const NEW: u32 = 2;
 pub const TAKE_BACK: u32 = 3;
+
+// kinds of a setpoint, of a waypoint's two laws, and the refusal of what is not known
+pub const NO_SETPOINT: u32 = 0;
+pub const PLANE: u32 = 1;
+pub const PLANE_RATE: u32 = 2;
+pub const TRACK: u32 = 1;
+pub const LOITER: u32 = 2;
+pub const IDLE: u32 = 3;
+pub const ENERGY: u32 = 1;
+pub const HOLD: u32 = 2;
+pub const FALLBACK: u32 = 3;
+pub const UNKNOWN: u32 = 255;
+
+// kinds of a call
+pub const PRIME: u32 = 0;
+pub const ATTITUDE: u32 = 1;
+pub const RATE: u32 = 2;
+pub const WAYPOINT: u32 = 3;
+pub const ABSOLUTE_ATTITUDE: u32 = 4;
+pub const LAND: u32 = 5;
+pub const ABSOLUTE_RATE: u32 = 6;
 
 extern "C" {
     pub fn nuthkolla_run(guidance: *mut Guidance, caller: u32, what: u32, bytes: *const u8, length: usize) -> Answer;

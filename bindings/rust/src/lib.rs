@@ -73,11 +73,11 @@ pub struct PlaneGuidance {
 }
 
 impl PlaneGuidance {
-    /// Guidance with `config`. Of each call of a guidance or a route: refusal 13 comes first.
+    /// Guidance with `config`.
     ///
     /// # Errors
     ///
-    /// Refusal 1 with the first field that fails.
+    /// Refusal 13, then 1 with the first field that fails.
     pub fn new(caller: Caller, config: PlaneGuidanceConfig) -> Result<Self, Refusal> {
         let mut record = [0; CONFIG_BYTES];
         let next = write_config(&mut record, 0, &config)?;
@@ -88,7 +88,7 @@ impl PlaneGuidance {
     ///
     /// # Errors
     ///
-    /// Refusals 5 and 6 of the record, then 1.
+    /// Refusal 13, then 5 and 6 of the record, then 1.
     pub fn from_record(caller: Caller, record: &[u8]) -> Result<Self, Refusal> {
         let mut guidance = PlaneGuidance { held: ffi::Guidance::default() };
         guidance.run(caller, ffi::NEW, record)?;
@@ -99,7 +99,7 @@ impl PlaneGuidance {
     ///
     /// # Errors
     ///
-    /// Refusals 2 and 4.
+    /// Refusals 13, 2 and 4.
     pub fn guide(
         &mut self,
         caller: Caller,
@@ -115,7 +115,7 @@ impl PlaneGuidance {
     ///
     /// # Errors
     ///
-    /// Refusals 2, 3 and 4.
+    /// Refusals 13, 2, 3 and 4.
     pub fn guide_capped(
         &mut self,
         caller: Caller,
@@ -181,7 +181,7 @@ impl PlaneGuidance {
     ///
     /// # Errors
     ///
-    /// Refusals 2, 3 and 4.
+    /// Refusal 13; of a guide call then 2, 3 and 4.
     pub fn call(&mut self, caller: Caller, call: &Call) -> Result<Answer, Refusal> {
         let mut record = [0; CALL_BYTES];
         let next = write_call(&mut record, 0, call)?;
@@ -192,7 +192,7 @@ impl PlaneGuidance {
     ///
     /// # Errors
     ///
-    /// Refusals 5, 6 and 7 of the record, then 2, 3 and 4.
+    /// Refusal 13, then 5, 6 and 7 of the record, then 2, 3 and 4.
     pub fn call_record(&mut self, caller: Caller, record: &[u8]) -> Result<Answer, Refusal> {
         let answer = self.run(caller, ffi::CALL, record)?;
         let laws = laws_of(&answer);
@@ -204,7 +204,7 @@ impl PlaneGuidance {
     ///
     /// # Errors
     ///
-    /// Refusal 1 with the first field that fails; the configuration then stays as it was.
+    /// Refusal 13, then 1 with the first field that fails; the configuration then stays as it was.
     pub fn set_config(&mut self, caller: Caller, config: PlaneGuidanceConfig) -> Result<(), Refusal> {
         let mut record = [0; CONFIG_BYTES];
         let next = write_config(&mut record, 0, &config)?;
@@ -215,7 +215,7 @@ impl PlaneGuidance {
     ///
     /// # Errors
     ///
-    /// Refusals 5 and 6 of the record, then 1.
+    /// Refusal 13, then 5 and 6 of the record, then 1.
     pub fn set_config_record(&mut self, caller: Caller, record: &[u8]) -> Result<usize, Refusal> {
         Ok(self.run(caller, ffi::SET_CONFIG, record)?.next)
     }
@@ -238,7 +238,7 @@ impl PlaneGuidance {
     ///
     /// # Errors
     ///
-    /// Refusal 14.
+    /// Refusal 13, then 14.
     pub fn take_back(&mut self, caller: Caller) -> Result<(), Refusal> {
         self.run(caller, ffi::TAKE_BACK, &[]).map(|_| ())
     }
@@ -324,9 +324,7 @@ impl PlaneGuidance {
 /// ```
 #[derive(Clone, Debug, PartialEq)]
 pub struct Route {
-    map: u64,
-    number: u32,
-    numbers: [f32; ROUTE_NUMBERS],
+    held: ffi::Route,
 }
 
 impl Route {
@@ -334,42 +332,42 @@ impl Route {
     ///
     /// # Errors
     ///
-    /// Refusals 5, 6, 10 and 11.
+    /// Refusal 13, then 5, 6, 10 and 11.
     pub fn load(caller: Caller, record: &[u8], at: usize) -> Result<(Self, usize), Refusal> {
-        let mut route = Route { map: 0, number: 0, numbers: [0.0; ROUTE_NUMBERS] };
-        let numbers = &mut route.numbers;
+        let mut held = ffi::Route { map: 0, number: 0, numbers: [0.0; ROUTE_NUMBERS] };
+        let numbers = &mut held.numbers;
         let caller = caller.number();
         // Safety: both are borrowed for the call.
         let loaded = unsafe { ffi::nuthkolla_load_route(caller, record.as_ptr(), record.len(), at, numbers.as_mut_ptr(), numbers.len()) };
         Refusal::of(loaded.refusal)?;
-        route.map = loaded.map;
-        route.number = loaded.number;
-        Ok((route, loaded.next))
+        held.map = loaded.map;
+        held.number = loaded.number;
+        Ok((Route { held }, loaded.next))
     }
 
     /// From 1 to one past the last point.
     pub fn number(&self) -> u32 {
-        self.number
+        self.held.number
     }
 
     /// Which points stand: bits 0 to 30 are those of the record's first map, bits 31 to 61 are bits 0 to 30 of the second.
     pub fn map(&self) -> u64 {
-        self.map
+        self.held.map
     }
 
     /// North, east, altitude and cruise speed of each standing point.
     pub fn points(&self) -> impl Iterator<Item = &[f32]> {
-        self.numbers.chunks(4).take(self.map.count_ones() as usize)
+        self.held.numbers.chunks(4).take(self.held.map.count_ones() as usize)
     }
 
     /// Writes the route's record from the place `at` on, keeps the other bytes, and gives the place after it.
     ///
     /// # Errors
     ///
-    /// Refusal 8.
+    /// Refusal 13, then 8.
     pub fn write(&self, caller: Caller, out: &mut [u8], at: usize) -> Result<usize, Refusal> {
-        let numbers = &self.numbers;
-        let (caller, map) = (caller.number(), self.map);
+        let numbers = &self.held.numbers;
+        let (caller, map) = (caller.number(), self.held.map);
         // Safety: both are borrowed for the call.
         let place = unsafe { ffi::nuthkolla_write_route(caller, out.as_mut_ptr(), out.len(), at, map, numbers.as_ptr(), numbers.len()) };
         Refusal::of(place.refusal)?;
@@ -382,7 +380,7 @@ impl PlaneGuidance {
     ///
     /// # Errors
     ///
-    /// Refusals 2, 3 and 4; guidance and route then stay as they were.
+    /// Refusals 13, 2, 3 and 4; guidance and route then stay as they were.
     pub fn guide_route(
         &mut self,
         caller: Caller,
@@ -393,8 +391,8 @@ impl PlaneGuidance {
         pitch_cap_rad: Option<f32>,
     ) -> Result<Answer, Refusal> {
         let call = ffi::RouteCall {
-            map: route.map,
-            number: route.number,
+            map: route.held.map,
+            number: route.held.number,
             regime: match regime {
                 FlightRegime::Copter => 0,
                 FlightRegime::Plane => 1,
@@ -408,11 +406,11 @@ impl PlaneGuidance {
             has_cap: pitch_cap_rad.is_some() as u32,
             pitch_cap_rad: pitch_cap_rad.unwrap_or(0.0),
         };
-        let (caller, numbers) = (caller.number(), &route.numbers);
+        let (caller, numbers) = (caller.number(), &route.held.numbers);
         // Safety: both are borrowed for the call, the guidance for itself alone.
         let flown = unsafe { ffi::nuthkolla_run_route(&mut self.held, caller, call, numbers.as_ptr(), numbers.len()) };
         Refusal::of(flown.answer.refusal)?;
-        route.number = flown.number;
+        route.held.number = flown.number;
         let cross_track_m = Some(flown.answer.cross_track_m);
         Ok(Answer { setpoint: setpoint_of(&flown.answer), laws: laws_of(&flown.answer), cross_track_m, next: 0 })
     }
@@ -420,8 +418,8 @@ impl PlaneGuidance {
 
 fn setpoint_of(answer: &ffi::Answer) -> Option<Setpoint> {
     match answer.setpoint {
-        1 => Some(Setpoint::Plane(PlaneSetpoint { roll_rad: answer.roll, pitch_rad: answer.pitch, thrust: answer.thrust })),
-        2 => Some(Setpoint::PlaneRate(BodyRateSetpoint {
+        ffi::PLANE => Some(Setpoint::Plane(PlaneSetpoint { roll_rad: answer.roll, pitch_rad: answer.pitch, thrust: answer.thrust })),
+        ffi::PLANE_RATE => Some(Setpoint::PlaneRate(BodyRateSetpoint {
             roll_radps: answer.roll,
             pitch_radps: answer.pitch,
             yaw_radps: answer.yaw,
@@ -433,15 +431,15 @@ fn setpoint_of(answer: &ffi::Answer) -> Option<Setpoint> {
 
 fn laws_of(answer: &ffi::Answer) -> Option<Laws> {
     let lateral = match answer.lateral {
-        1 => LateralLaw::Track,
-        2 => LateralLaw::Loiter,
-        3 => LateralLaw::Idle,
+        ffi::TRACK => LateralLaw::Track,
+        ffi::LOITER => LateralLaw::Loiter,
+        ffi::IDLE => LateralLaw::Idle,
         _ => return None,
     };
     let vertical = match answer.vertical {
-        1 => VerticalLaw::Energy,
-        2 => VerticalLaw::Hold,
-        3 => VerticalLaw::Fallback,
+        ffi::ENERGY => VerticalLaw::Energy,
+        ffi::HOLD => VerticalLaw::Hold,
+        ffi::FALLBACK => VerticalLaw::Fallback,
         _ => return None,
     };
     Some(Laws { lateral, vertical })
@@ -492,6 +490,7 @@ pub struct RecordingRefused {
 
 /// Compacts a recording, all of `bytes`, in place: drops the calls that demand 3 allows to be struck, closes the gaps,
 /// clears what is left and gives the new length. Replaying the short recording gives each remaining call its answer again.
+/// Whoever replays records acts as the skipper.
 ///
 /// # Errors
 ///
@@ -531,7 +530,7 @@ pub enum End {
 }
 
 /// Holds the box's recording and the display's together, each without the calls that [`compact`] would drop. Values are held
-/// equal as bits, every NaN alike, whatever map spelled them.
+/// equal as bits, every NaN alike, whatever map spelled them. Whoever replays records acts as the skipper.
 ///
 /// # Errors
 ///
@@ -601,7 +600,7 @@ pub fn convert_record(bytes: &[u8], at: usize, wanted: Edition, out: &mut [u8], 
 
 fn numbers_of(call: &Call) -> ffi::Call {
     let Call::Guide { dt, regime, input, state, pitch_cap_rad } = call else {
-        return ffi::Call { regime: 1, ..Default::default() };
+        return ffi::Call { kind: ffi::PRIME, regime: 1, ..Default::default() };
     };
     let regime = match regime {
         FlightRegime::Copter => 0,
@@ -609,11 +608,11 @@ fn numbers_of(call: &Call) -> ffi::Call {
     };
     let of = |kind, numbers| ffi::Call { kind, regime, dt: *dt, numbers, ..Default::default() };
     match input {
-        ControlInput::Attitude(k) => of(1, [k.roll, k.pitch, k.throttle, 0.0]),
-        ControlInput::Rate(k) => of(2, [k.roll_rate, k.pitch_rate, k.yaw_rate, k.throttle]),
-        ControlInput::AbsoluteAttitude(k) => of(4, [k.roll_rad, k.pitch_rad, k.thrust, 0.0]),
-        ControlInput::Land(_) => of(5, [0.0; 4]),
-        ControlInput::AbsoluteRate(k) => of(6, [k.roll_radps, k.pitch_radps, k.yaw_radps, k.thrust]),
+        ControlInput::Attitude(k) => of(ffi::ATTITUDE, [k.roll, k.pitch, k.throttle, 0.0]),
+        ControlInput::Rate(k) => of(ffi::RATE, [k.roll_rate, k.pitch_rate, k.yaw_rate, k.throttle]),
+        ControlInput::AbsoluteAttitude(k) => of(ffi::ABSOLUTE_ATTITUDE, [k.roll_rad, k.pitch_rad, k.thrust, 0.0]),
+        ControlInput::Land(_) => of(ffi::LAND, [0.0; 4]),
+        ControlInput::AbsoluteRate(k) => of(ffi::ABSOLUTE_RATE, [k.roll_radps, k.pitch_radps, k.yaw_radps, k.thrust]),
         ControlInput::Waypoint(w) => {
             let leg = w.velocity_mps.unwrap_or_default();
             ffi::Call {
@@ -629,7 +628,7 @@ fn numbers_of(call: &Call) -> ffi::Call {
                 airspeed_mps: state.airspeed_mps.unwrap_or_default(),
                 has_cap: pitch_cap_rad.is_some() as u32,
                 pitch_cap_rad: pitch_cap_rad.unwrap_or_default(),
-                ..of(3, [0.0; 4])
+                ..of(ffi::WAYPOINT, [0.0; 4])
             }
         }
     }

@@ -352,7 +352,8 @@ pub struct Answer {
     pub setpoint: Option<Setpoint>,
     pub laws: Option<Laws>,
     /// Of a waypoint the metres off its line, the leg or the loiter's tangent, right positive; it may be infinite or NaN. +0 where
-    /// it is idle or within 1e-3 m of a loiter's centre.
+    /// it is idle or within 1e-3 m of a loiter's centre; with a finite offset from the waypoint a zero too where the leg's or, of a
+    /// loiter, the offset's length overflows.
     pub cross_track_m: Option<f32>,
     /// The place after the record that was read.
     pub next: usize,
@@ -369,7 +370,10 @@ pub struct Answer {
 /// | guide along a route | yes | yes | |
 /// | the mode report, the stall guard's | yes | yes | yes |
 ///
-/// A call without the right is refused with 13 before anything else is looked at, and changes nothing.
+/// A call without the right is refused with 13 before anything else is looked at, and changes nothing. Whatever replays records or
+/// draws a path acts as the skipper and takes no caller: [`compact`](crate::compact), [`agree`](crate::agree),
+/// [`draw_path`](crate::PlaneGuidance::draw_path). What has neither guidance nor route, as a record that is written, read or converted,
+/// asks for no right.
 #[derive(Clone, Copy, Debug, PartialEq, Eq)]
 pub enum Caller {
     Skipper,

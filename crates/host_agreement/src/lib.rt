@@ -1,4 +1,5 @@
 // Two recordings held together, for a host in C or Rust: an object of its own, so that the code of a call stays one piece in it.
+// Whoever replays records acts as the skipper (document 02, K9): there is no caller to judge.
 use agreement::Agreement;
 use agreement::agree;
 ghost use mathlib.Core.Path.{_≡_};

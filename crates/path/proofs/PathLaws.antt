@@ -10,7 +10,9 @@ use lib.ListN.{length, take, drop}
 use Rattle.arithmetic.proofs.Bounds.{never, never′}
 use Rattle.laws.specs.declared.types.Vec3.{Vec3}
 use Rattle.laws.specs.declared.types.VehicleState.{VehicleState}
+use Rattle.laws.specs.declared.types.Setpoint.the-variants as Set
 use Rattle.guidance.specs.declared.plane.PlaneGuidance.{PlaneGuidance}
+use Rattle.guidance.specs.declared.plane.WaypointAnswer.{WaypointAnswer}
 use Rattle.guidance.specs.declared.plane.Answer.{Answer}
 use Rattle.guidance.specs.declared.plane.Answer.the-variants.{Waypoint}
 use Rattle.path.specs.Model.{step, byAnswer, bySetpoint, flown, allFinite, settled, stopped}
@@ -18,6 +20,7 @@ use Rattle.path.specs.Path.{Path, stoppedHere, onward, path, start, put,
 use Rattle.path.specs.Laws.{ownAnswer, StartsAsFlown, Begins, Counts}
 use Rattle.path.specs.declared.model.WaypointCall.{WaypointCall}
 use Rattle.path.specs.declared.model.Model.{Model}
+use Rattle.path.specs.declared.model.Stepped.{Stepped}
 use Rattle.path.proofs.Drawing.{moves, stops}
 
 -- ---- the first step
@@ -36,16 +39,36 @@ settled-at : (m : Model) (g : PlaneGuidance) (s : VehicleState) → settled m g 
 unfolding settled
 settled-at m g s h = settled-by (allFinite (s .«position_m») && allFinite (s .«velocity_mps»)) m g s h
 
+-- whether it moves or not, it gives no refusal
+no-refusal-by : (b : Bool) (m : Model) (g : PlaneGuidance) (s : VehicleState) →
+    cond b (record { moved = true; reason = 0; model = record { guidance = g; state = s } }) (stopped m 0) .reason ≡ 0
+no-refusal-by true m g s = refl
+no-refusal-by false m g s = refl
+
+no-refusal : (m : Model) (g : PlaneGuidance) (s : VehicleState) → settled m g s .reason ≡ 0
+unfolding settled
+no-refusal m g s = no-refusal-by (allFinite (s .«position_m») && allFinite (s .«velocity_mps»)) m g s
+
+-- the first step, of a waypoint answered with this roll and pitch
+abbrev firstStep : PlaneGuidance → WaypointCall → Float → Float → Stepped
+firstStep g k roll pitch = settled (start g k) (ownAnswer g k .guidance) (flown (k .state) (k .dt) roll pitch)
+
+first-is : (g : PlaneGuidance) (k : WaypointCall) (a : WaypointAnswer) (roll pitch thrust : Float) →
+    ownAnswer g k .answer ≡ Waypoint a → a .setpoint ≡ Set.Plane roll pitch thrust → firstStep g k roll pitch ≡ step k (start g k)
+first-is g k a roll pitch thrust e is = ap (bySetpoint (start g k) (k .dt) (ownAnswer g k .guidance)) (sym is) ∙ step-is g k (Waypoint a) e
+
 pub starts-as-flown : (g : PlaneGuidance) (k : WaypointCall) → StartsAsFlown g k
 starts-as-flown g k =
     record {
       refused = λ n r e. stops n k (start g k) (stopped (start g k) r) (step-is g k _ e) refl;
       answered = λ n a roll pitch thrust e is h.
-          let plane = flown (k .state) (k .dt) roll pitch in
-          let s = settled (start g k) (ownAnswer g k .guidance) plane in
-          let steps = ap (bySetpoint (start g k) (k .dt) (ownAnswer g k .guidance)) (sym is) ∙ step-is g k (Waypoint a) e in
-          ap (λ (p : Path). take 1 (p .points)) (moves n k (start g k) s steps h)
-          ∙ ap (λ (v : VehicleState). v .«position_m» ∷ []) (settled-at (start g k) (ownAnswer g k .guidance) plane h);
+          ap (λ (p : Path). take 1 (p .points))
+          (moves n k (start g k) (firstStep g k roll pitch) (first-is g k a roll pitch thrust e is) h)
+          ∙ ap (λ (v : VehicleState). v .«position_m» ∷ [])
+          (settled-at (start g k) (ownAnswer g k .guidance) (flown (k .state) (k .dt) roll pitch) h);
+      not-finite = λ n a roll pitch thrust e is h.
+          stops n k (start g k) (firstStep g k roll pitch) (first-is g k a roll pitch thrust e is) h
+          ∙ ap stoppedHere (no-refusal (start g k) (ownAnswer g k .guidance) (flown (k .state) (k .dt) roll pitch));
     }
 
 -- ---- a path is the beginning of a longer one

@@ -24,6 +24,7 @@ ownAnswer g k = guided g (k .dt) (k .regime) (Input.Waypoint (k .command)) (k .s
 
 -- What is drawn starts from what is flown: the first step is the guidance's own answer to the call. Refused, nothing is drawn
 -- and the path says so; otherwise the plane of the call's sensors flies the answered roll and pitch, and that is the first point.
+-- Where a number of its position or velocity is not finite, nothing is drawn and the path says that, with no refusal.
 pub record StartsAsFlown (g : PlaneGuidance) (k : WaypointCall) : Type 0 where
   pub refused : (n r : ℕ) → ownAnswer g k .answer ≡ Refused r → path (suc n) k (start g k) ≡ stoppedHere r
   pub answered :
@@ -32,6 +33,11 @@ pub record StartsAsFlown (g : PlaneGuidance) (k : WaypointCall) : Type 0 where
       let plane = flown (k .state) (k .dt) roll pitch in
       settled (start g k) (ownAnswer g k .guidance) plane .moved ≡ true →
       take 1 (path (suc n) k (start g k) .points) ≡ plane .«position_m» ∷ []
+  pub not-finite :
+      (n : ℕ) (a : WaypointAnswer) (roll pitch thrust : Float) →
+      ownAnswer g k .answer ≡ Waypoint a → a .setpoint ≡ Set.Plane roll pitch thrust →
+      settled (start g k) (ownAnswer g k .guidance) (flown (k .state) (k .dt) roll pitch) .moved ≡ false →
+      path (suc n) k (start g k) ≡ stoppedHere 0
 
 -- A path of n steps is the beginning of one of n + more steps.
 pub record Begins (n more : ℕ) (k : WaypointCall) (m : Model) : Type 0 where
