@@ -111,12 +111,14 @@ impl Record {
         state
     }
 
-    /// The names of a waypoint's laws, as numbers.
+    /// The names of a waypoint's laws, as numbers. Idle is told by squares, so that the names cost the Rust no root: a length is
+    /// below 1 exactly where its square is, and at most 1e-6 where its square is at most the greatest f32 whose root is.
     fn laws(&self) -> (u32, u32) {
         let n = &self.n;
         let track = self.stands(9) && n[9].is_finite() && n[10].is_finite();
-        let speed = Vec2::new(n[16], n[17]).norm();
-        let idle = track && Vec2::new(n[9], n[10]).norm() <= 1e-6 || speed < 1.0 || speed.is_nan();
+        let square = |x: f32, y: f32| x * x + y * y;
+        let speed = square(n[16], n[17]);
+        let idle = track && square(n[9], n[10]) <= f32::from_bits(0x2b8c_bccd) || speed < 1.0 || speed.is_nan();
         let vertical = if !(self.stands(20) && n[12] > 0.0 && n[20] >= 0.0) {
             3
         } else if [n[11], n[12], n[20], n[15], n[18]].iter().all(|v| v.is_finite()) {

@@ -1,10 +1,31 @@
-//! Drawn paths through the C boundary: the archive's nuthkolla_draw_path, and document 02's model over the published Rust with
-//! document 01's refusals. Both draw the same paths, and every point is compared before anything is timed. Beside them a guide
-//! call of the archive on the same waypoint, its record read.
+//! Drawn paths: the archive's nuthkolla_draw_path through the C boundary, the oracle's own `draw`, and, as the least that Rust
+//! could do, document 02's model over the published Rust with document 01's refusals and nothing else: no law names, no distance
+//! off the line, no guidance kept for a refusal. All draw the same paths, and every point is compared before anything is timed.
+//! Beside them a guide call of the archive on the same waypoint, its record read.
 //!
 //!     path ROUNDS
 
+#[path = "../oracle/src/oracle/configuration.rs"]
+#[allow(dead_code)]
+mod configuration;
+#[path = "../oracle/src/oracle/flown.rs"]
+#[allow(dead_code)]
+mod flown;
+#[path = "../oracle/src/oracle/guidance.rs"]
+#[allow(dead_code)]
+mod guidance;
+#[path = "../oracle/src/oracle/lateral.rs"]
+#[allow(dead_code)]
+mod lateral;
+#[path = "../oracle/src/oracle/path.rs"]
+#[allow(dead_code)]
+mod path;
+#[path = "../oracle/src/oracle/record.rs"]
+#[allow(dead_code)]
+mod record;
+
 use arithmetic::{FRAC_PI_2, clamp, cosine, length, sine};
+use flown::Flown;
 use nuthkolla::ffi;
 use stable_flight::guidance::plane::{PlaneGuidance, PlaneGuidanceConfig};
 use stable_flight::{ControlInput, FlightRegime, Setpoint, Vec2, Vec3, VehicleState, WaypointCommand};
@@ -109,6 +130,11 @@ fn step(own: &mut PlaneGuidance, command: &ControlInput, dt: f32, cap: Option<f3
     if numbers.iter().all(|number| number.is_finite()) { Ok(()) } else { Err(0) }
 }
 
+/// The same call as the oracle has it.
+fn oracle_call(record: &[u8]) -> record::Call {
+    record::read_call(record, 0).map(|(call, _)| call).unwrap_or_else(|_| panic!("a call's record"))
+}
+
 fn ns_of(times: usize, mut run: impl FnMut()) -> f64 {
     let start = Instant::now();
     for _ in 0..times {
@@ -117,45 +143,70 @@ fn ns_of(times: usize, mut run: impl FnMut()) -> f64 {
     start.elapsed().as_nanos() as f64 / times as f64
 }
 
-fn main() {
-    let rounds: usize = std::env::args().nth(1).map_or(200, |word| word.parse().expect("a number of rounds"));
+/// The least time of each job, in ns, over the second half of the rounds.
+fn least(rounds: usize, jobs: &mut [(usize, &mut dyn FnMut())]) -> Vec<f64> {
+    let mut least = vec![f64::MAX; jobs.len()];
+    for round in 0..2 * rounds {
+        for ((times, job), time) in jobs.iter_mut().zip(&mut least) {
+            let taken = ns_of(*times, job);
+            if round >= rounds {
+                *time = time.min(taken);
+            }
+        }
+    }
+    least
+}
+
+fn alike(a: &[f32], b: &[f32]) -> bool {
+    a.iter().zip(b).all(|(p, q)| p.to_bits() == q.to_bits())
+}
+
+fn time(name: &str, call: ffi::Call, steps: usize, rounds: usize) {
     let mut ours = ffi::Guidance::default();
     let made = unsafe { ffi::nuthkolla_run(&mut ours, 0, ffi::NEW, [0u8; 5].as_ptr(), 5) };
     assert_eq!(made.refusal, 0);
     let published = PlaneGuidance::new(PlaneGuidanceConfig::default());
+    let plane = flown::judge::Plane::new(&configuration::default());
+    let mut record = [0u8; 86];
+    let next = unsafe { ffi::nuthkolla_write_call(record.as_mut_ptr(), record.len(), 0, call) }.next;
+    let oracle_call = oracle_call(&record[..next]);
+
+    let (mut here, mut oracles, mut models) = (vec![0f32; 3 * steps], vec![0f32; 3 * steps], vec![0f32; 3 * steps]);
+    let draw = |out: &mut [f32]| unsafe { ffi::nuthkolla_draw_path(ours, call, steps, out.as_mut_ptr(), out.len()) };
+    let oracle = |out: &mut [f32]| path::draw(black_box(&plane), black_box(&oracle_call), steps, out);
+    let model = |out: &mut [f32]| published_path(&published, call, steps, out.as_mut_ptr(), out.len());
+    let (a, b) = (draw(&mut here), model(&mut models));
+    assert_eq!((a.refusal, a.drawn, a.stopped, a.reason), (b.refusal, b.drawn, b.stopped, b.reason));
+    assert!(matches!(oracle(&mut oracles), Ok((drawn, None)) if drawn == a.drawn));
+    assert!(alike(&here, &models) && alike(&here, &oracles), "points alike");
+
+    let (mut guidance, times) = (ours, 6000 / steps);
+    let taken = least(
+        rounds,
+        &mut [
+            (times, &mut || drop(black_box(draw(black_box(&mut here))))),
+            (times, &mut || drop(black_box(oracle(black_box(&mut oracles))))),
+            (times, &mut || drop(black_box(model(black_box(&mut models))))),
+            (6000, &mut || {
+                black_box(unsafe { ffi::nuthkolla_run(black_box(&mut guidance), 0, ffi::CALL, record.as_ptr(), next) });
+            }),
+        ],
+    );
+    let [step, oracle, model] = [0, 1, 2].map(|job| taken[job] / steps as f64);
+    println!(
+        "{name:8} {steps:3} steps, points alike: {step:.1} ns a step here; the oracle's {oracle:.1} ns, ratio {:.2}; the bare model {model:.1} ns, ratio {:.2}; a guide call {:.1} ns, a step {:.2} of it",
+        step / oracle,
+        step / model,
+        taken[3],
+        step / taken[3]
+    );
+}
+
+fn main() {
+    let rounds: usize = std::env::args().nth(1).map_or(200, |word| word.parse().expect("a number of rounds"));
     for (name, call) in calls() {
-        let mut record = [0u8; 86];
-        let next = unsafe { ffi::nuthkolla_write_call(record.as_mut_ptr(), record.len(), 0, call) }.next;
         for steps in STEPS {
-            let (mut here, mut there) = (vec![0f32; 3 * steps], vec![0f32; 3 * steps]);
-            let draw = |out: &mut [f32]| unsafe { ffi::nuthkolla_draw_path(ours, call, steps, out.as_mut_ptr(), out.len()) };
-            let model = |out: &mut [f32]| published_path(&published, call, steps, out.as_mut_ptr(), out.len());
-            let (a, b) = (draw(&mut here), model(&mut there));
-            assert_eq!((a.refusal, a.drawn, a.stopped, a.reason), (b.refusal, b.drawn, b.stopped, b.reason));
-            assert!(here.iter().zip(&there).all(|(p, q)| p.to_bits() == q.to_bits()), "points alike");
-            let mut least = [f64::MAX; 3];
-            let times = 6000 / steps;
-            for round in 0..2 * rounds {
-                let first = ns_of(times, || {
-                    black_box(draw(black_box(&mut here)));
-                });
-                let second = ns_of(times, || {
-                    black_box(model(black_box(&mut there)));
-                });
-                let mut guidance = ours;
-                let guide = ns_of(6000, || {
-                    black_box(unsafe { ffi::nuthkolla_run(black_box(&mut guidance), 0, ffi::CALL, record.as_ptr(), next) });
-                });
-                if round >= rounds {
-                    least = [least[0].min(first), least[1].min(second), least[2].min(guide)];
-                }
-            }
-            let (step, model, guide) = (least[0] / steps as f64, least[1] / steps as f64, least[2]);
-            println!(
-                "{name:8} {steps:3} steps, points alike: {step:.1} ns a step here, {model:.1} ns the model over the published Rust, ratio {:.2}; a guide call {guide:.1} ns, a step {:.2} of it",
-                step / model,
-                step / guide
-            );
+            time(name, call, steps, rounds);
         }
     }
 }
