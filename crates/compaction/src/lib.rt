@@ -8,7 +8,9 @@ use guidance::plane::Created;
 use guidance::plane::PlaneGuidance;
 use guidance::plane::VerticalLaw;
 use records::call::ReadCall;
+use records::call::Skipped;
 use records::call::read_call;
+use records::call::skip_call;
 use records::config::ReadConfig;
 use records::config::read_config;
 ghost use mathlib.Core.Path.{_≡_};
@@ -60,7 +62,7 @@ pub enum Decided {
 
 // ---- the first pass
 
-// Reads the calls from a place on.
+// Goes over the calls from a place on.
 fn scan(s: &[u8], from: usize) -> Scanned
     ensures { λ r. ⌜ r ≡ step.scanned 1 (readCalls mostCalls (now (s .entry)) from) ⌝ }
 {
@@ -73,15 +75,15 @@ fn scan(s: &[u8], from: usize) -> Scanned
                 refusal: 0,
             };
         }
-        let read = read_call(s, at);
+        let read = skip_call(s, at);
         match read {
-            ReadCall::Refused(r) => {
+            Skipped::Refused(r) => {
                 return Scanned {
                     number: n,
                     refusal: r as u32,
                 };
             }
-            ReadCall::Read { call, next } => {
+            Skipped::Next(next) => {
                 at = next;
                 n += 1;
             }

@@ -26,6 +26,8 @@ use Rattle.records.specs.declared.call.Call.{Call}
 use Rattle.records.specs.declared.call.Call.the-variants.{Prime, Attitude, Rate, Waypoint, AbsoluteAttitude, Land, AbsoluteRate}
 use Rattle.records.specs.declared.call.ReadCall.{ReadCall}
 use Rattle.records.specs.declared.call.ReadCall.the-variants as read
+use Rattle.records.specs.declared.call.Skipped.{Skipped}
+use Rattle.records.specs.declared.call.Skipped.the-variants as skip
 
 -- +0
 abbrev pub zero : Float
@@ -123,6 +125,11 @@ readCall s at =
     (cond (not (hasBytes s at size)) (read.Refused 5)
     (cond (unknown kind regime) (read.Refused 7)
     (read.Read (callAt kind (regimeOf regime) map (floatsOf (drop 2 values))) (at + size)))))
+
+-- the place after the record, without the call
+abbrev pub skipped : ReadCall → Skipped
+skipped (read.Read call next) = skip.Next next
+skipped (read.Refused r) = skip.Refused r
 
 -- ---- writing
 

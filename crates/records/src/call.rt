@@ -80,6 +80,12 @@ pub enum ReadCall {
     Refused(u8),
 }
 
+// What is left of that without the call: the place after the record, or the refusal's number.
+pub enum Skipped {
+    Next(usize),
+    Refused(u8),
+}
+
 // What refusal 6 asks of a map: no unnamed bit, the kind bit, both parts of a leg or neither.
 pub fn is_complete(map: u64) -> bool
     ensures { λ r. ⌜ r ≡ spec.complete map ⌝ }
@@ -362,4 +368,34 @@ pub fn read_call(s: &[u8], at: usize) -> ReadCall
         call,
         next: at + size,
     }
+}
+
+// `read_call` without the numbers, for whoever goes over a recording before it is replayed. A function of its own, so that the reader of
+// such a program is called from one place and stays in line.
+pub fn skip_call(s: &[u8], at: usize) -> Skipped
+    ensures { λ r. ⌜ r ≡ spec.skipped (spec.readCall (now (s .entry)) at) ⌝ }
+{
+    if s.len() < at {
+        return Skipped::Refused(5);
+    }
+    if s.len() - at < 4 {
+        return Skipped::Refused(5);
+    }
+    let map = read_number(&s[at..], 4);
+    if !is_complete(map) {
+        return Skipped::Refused(6);
+    }
+    let bytes = 4 + fields_size(map);
+    if s.len() - at < bytes {
+        return Skipped::Refused(5);
+    }
+    let first = read_byte(s, Cursor { at: at + 4 }, map, 0);
+    let second = read_byte(s, first.rest, map / 2, 1);
+    if 6 < first.value {
+        return Skipped::Refused(7);
+    }
+    if 1 < second.value {
+        return Skipped::Refused(7);
+    }
+    Skipped::Next(at + bytes)
 }

@@ -18,20 +18,20 @@ loop-holds c = scan-starts _ _
 returns : tie.Need-returns Inv-loop μ-loop
 returns c = scan-over (c .before .before .loop .inv) (c .if1 .taken)
 
-read-call-requires : tie.Need-read-call-requires Inv-loop μ-loop
-read-call-requires c κs = search needs
+skip-call-requires : tie.Need-skip-call-requires Inv-loop μ-loop
+skip-call-requires c κs = search needs
 
 enum-known-read : tie.Need-enum-known-read Inv-loop μ-loop
 enum-known-read c = search needs
 
-cast-t11 : tie.Need-cast-t11 Inv-loop μ-loop
-cast-t11 c = search needs
+cast-t10 : tie.Need-cast-t10 Inv-loop μ-loop
+cast-t10 c = search needs
 
 returns-2 : tie.Need-returns-2 Inv-loop μ-loop
 returns-2 c =
     scan-bad (c .before .before .before .before .before .before .loop .inv) _
     (c .before .before .before .before .before .loop-test .taken) (c .before .before .before .before .if1 .left)
-    (sym (c .before .before .before .read-call .ensures) ∙ c .before .read .given .1)
+    (sym (c .before .read .given .1) ∙ c .before .before .before .skip-call .ensures)
 
 enum-known-read-2 : tie.Need-enum-known-read-2 Inv-loop μ-loop
 enum-known-read-2 c = search needs
@@ -44,9 +44,9 @@ loop-less c = omega arith
 
 loop-again : tie.Need-loop-again Inv-loop μ-loop
 loop-again c =
-    scan-turn (c .before .before .before .before .before .before .loop .inv) _ _
+    scan-turn (c .before .before .before .before .before .before .loop .inv) _
     (c .before .before .before .before .before .loop-test .taken) (c .before .before .before .before .if1 .left)
-    (sym (c .before .before .before .read-call .ensures) ∙ c .before .read2 .given .1)
+    (sym (c .before .read2 .given .1) ∙ c .before .before .before .skip-call .ensures)
 
 returns-3 : tie.Need-returns-3 Inv-loop μ-loop
 returns-3 c = scan-over (c .before .before .loop .inv) (c .if2 .taken)
@@ -62,9 +62,9 @@ scan-spec =
     μ-loop
     loop-holds
     returns
-    read-call-requires
+    skip-call-requires
     enum-known-read
-    cast-t11
+    cast-t10
     returns-2
     enum-known-read-2
     add-n
