@@ -37,7 +37,6 @@ use Rattle.records.specs.Call.{
   callFields,
   complete,
   unknown,
-  byteAt,
   regimeOf,
   optionOf,
   legOf,
@@ -63,6 +62,7 @@ use Rattle.records.specs.Call.{
   callRecord,
 }
 use Rattle.records.specs.Call as spec
+use Rattle.records.specs.code.Steps.{byteAt}
 use Rattle.record_laws.specs.Laws.{CallF32, CallLaws, CallLongest}
 use Rattle.records.proofs.CallLaw.{fields-long, fields-are, size-is, Numbers, parts-long, regime-le, values-byte, byte-missing}
 

@@ -31,7 +31,6 @@ use Rattle.records.specs.Call.{
   callFields,
   complete,
   unknown,
-  byteAt,
   regimeOf,
   callAt,
   readCall,
@@ -41,9 +40,9 @@ use Rattle.records.specs.Call.{
   partsOf,
   valuesOf,
   mapOfParts,
-  byteOf,
   callRecord,
 }
+use Rattle.records.specs.code.Steps.{byteAt, byteOf}
 
 pub fields-long : length callFields ≡ 22
 unfolding callFields numberFields
