@@ -71,7 +71,7 @@ size-is m =
     rw (fields-are, bit-is m, bit-is (m / 2), size-numbers (replicate 20 0) (m / 2 / 2), quarter) (omega arith)
 
 -- the bits from the third on, counted
-pub counted : (m n : ℕ) → n ≡ ones 64 (m / 4 % 1048576) → n ≡ ones 20 (m / 4)
+pub counted : (m n : ℕ) → n ≡ ones 64 (m / 4 % 2 ^ 20) → n ≡ ones 20 (m / 4)
 counted m n e = e ∙ ones-low 20 44 (m / 4)
 
 -- ---- a map in which no number after the first n stands
