@@ -100,7 +100,8 @@ series-above m e f h =
     (not-below-smallest m e f) (factor-least (fin false (suc m) e) h))
 
 -- ---- part of a u up to 1 with no sign: past 3/8, (u - 1)/(u + 1) is at most 5/8 over 11/8 in size; part is at most 22/16
-end-value : HasValue seriesEnd false 13898701 33554432
+-- 0x2000000 is 2 ^ 25
+end-value : HasValue seriesEnd false 13898701 0x2000000
 unfolding ofBits
 end-value = (refl, refl)
 
@@ -121,13 +122,13 @@ module _ (m : ℕ) (e : ℤ) where
   u = fin false m e
 
   up-to-end : le u seriesEnd ≡ true → Within 1 2 u
-  up-to-end h = weaker 13898701 33554432 1 2 u (omega arith) (omega arith) (le-within seriesEnd 13898701 33554432 (plain m e) end-value (truth _ h))
+  up-to-end h = weaker 13898701 0x2000000 1 2 u (omega arith) (omega arith) (le-within seriesEnd 13898701 0x2000000 (plain m e) end-value (truth _ h))
 
   past-end : le u seriesEnd ≡ false → AtLeast 3 8 u
   unfolding le isNan
   past-end h =
-      fewer 13898701 33554432 3 8 u (omega arith) (omega arith)
-      (le-least seriesEnd 13898701 33554432 (plain m e) (omega arith) end-value
+      fewer 13898701 0x2000000 3 8 u (omega arith) (omega arith)
+      (le-least seriesEnd 13898701 0x2000000 (plain m e) (omega arith) end-value
       (truth (le seriesEnd u) (le-of-not-lt u seriesEnd refl end-number (or-false (lt u seriesEnd) (eq u seriesEnd) h))))
 
   module _ (h : Within 1 1 (fin false m e)) where

@@ -31,7 +31,8 @@ use Rattle.laws.specs.declared.tecs.Inputs.{Inputs}
 use Rattle.laws.specs.declared.types.OptionF32.{OptionF32}
 use Rattle.laws.specs.declared.types.WaypointCommand.{WaypointCommand}
 use Rattle.laws.specs.declared.types.VehicleState.{VehicleState}
-use Rattle.guidance.specs.Plane.{topThrust, limitsOf, inputs, capped, badTimeStep, badCap}
+use Rattle.guidance.specs.Plane as Plane
+use Rattle.guidance.specs.Plane.{topThrust, limitsOf, capped, badTimeStep, badCap}
 use Rattle.claims.specs.Calls.{Call}
 use Rattle.claims.specs.Clamps.{FixedBounds, EnergyBounds, FallbackBounds, WaypointBounds, ClampsOrdered}
 use Rattle.claims.proofs.Spans.{
@@ -140,7 +141,7 @@ module _ (c : PlaneGuidanceConfig) (e : validate c ≡ 0) (cap : OptionF32) (q :
     thrust = thrust-span c v;
   }
 
-  module _ (f : Inputs) (dt-positive : Positive (f .dt)) (a : allInputsFinite f ≡ true) where
+  module _ (inputs : Inputs) (dt-positive : Positive (inputs .dt)) (a : allInputsFinite inputs ≡ true) where
     sink-least : AtLeastZero (c .tecs .«max_sink_mps»)
     sink-least = at-least-zero _ (and-left (le n0 (c .tecs .«max_sink_mps»)) (finite (c .tecs .«max_sink_mps»)) (valid-field c e 18))
 
@@ -157,26 +158,26 @@ module _ (c : PlaneGuidanceConfig) (e : validate c ≡ 0) (cap : OptionF32) (q :
     window-positive =
         greatest-positive (c .tecs .«time_constant_s») (positive-field _ (valid-field c e 28)) (positive-finite (positive-field _ (valid-field c e 15)))
 
-    airspeed-finite : finite (f .«airspeed_mps») ≡ true
+    airspeed-finite : finite (inputs .«airspeed_mps») ≡ true
     unfolding allInputsFinite
     airspeed-finite =
-        let h = finite (f .«altitude_m») && finite (f .«airspeed_target_mps») in
-        and-right h (finite (f .«airspeed_mps»))
-        (and-left (h && finite (f .«airspeed_mps»)) (finite (f .«height_m»)) (and-left _ (finite (f .«climb_mps»)) a))
+        let h = finite (inputs .«altitude_m») && finite (inputs .«airspeed_target_mps») in
+        and-right h (finite (inputs .«airspeed_mps»))
+        (and-left (h && finite (inputs .«airspeed_mps»)) (finite (inputs .«height_m»)) (and-left _ (finite (inputs .«climb_mps»)) a))
 
-    height-finite : finite (f .«height_m») ≡ true
+    height-finite : finite (inputs .«height_m») ≡ true
     unfolding allInputsFinite
     height-finite =
-        and-right (finite (f .«altitude_m») && finite (f .«airspeed_target_mps») && finite (f .«airspeed_mps»)) (finite (f .«height_m»))
-        (and-left _ (finite (f .«climb_mps»)) a)
+        and-right (finite (inputs .«altitude_m») && finite (inputs .«airspeed_target_mps») && finite (inputs .«airspeed_mps»)) (finite (inputs .«height_m»))
+        (and-left _ (finite (inputs .«climb_mps»)) a)
 
     rate-least : AtLeastZero (maxEnergyRate (c .tecs))
     rate-least = product-left gravity-positive climb-least
 
-    accel-least : AtLeastZero (half ·ᶠ maxEnergyRate (c .tecs) /ᶠ greatest (f .«airspeed_mps») minGainAirspeed)
-    accel-least = quotient (product-left half-positive rate-least) (greatest-positive (f .«airspeed_mps») gain-positive airspeed-finite)
+    accel-least : AtLeastZero (half ·ᶠ maxEnergyRate (c .tecs) /ᶠ greatest (inputs .«airspeed_mps») minGainAirspeed)
+    accel-least = quotient (product-left half-positive rate-least) (greatest-positive (inputs .«airspeed_mps») gain-positive airspeed-finite)
 
-    energy-bounds : EnergyBounds (c .tecs) (limitsOf c cap) f
+    energy-bounds : EnergyBounds (c .tecs) (limitsOf c cap) inputs
     unfolding limitsOf
     energy-bounds = record {
       climb = between sink-least climb-least;
@@ -199,9 +200,9 @@ step-passes false p = never (sym p)
 
 waypoint-bounds : (c : PlaneGuidanceConfig) → validate c ≡ 0 → (dt : Float) (w : WaypointCommand) (s : VehicleState) (cap : OptionF32) →
     badTimeStep dt ≡ false → badCap cap ≡ false → WaypointBounds c dt w s cap
-unfolding inputs
+unfolding Plane.inputs
 waypoint-bounds c e dt w s cap p q = record {
-  energy = λ a. energy-bounds c e cap q (inputs dt w s) (positive-field dt (step-passes (lt n0 dt && finite dt) p)) a;
+  energy = λ a. energy-bounds c e cap q (Plane.inputs dt w s) (positive-field dt (step-passes (lt n0 dt && finite dt) p)) a;
   fallback = fallback-bounds c e cap q;
 }
 

@@ -190,29 +190,29 @@ pitch-span c cap v q = zero-between _ _ (cap-zero (c .«max_pitch_down_rad») ca
 
 -- thrust in its span, and at its top where b says so
 abbrev InSpanAtTop : Bool → Limits → Float → Type 0
-InSpanAtTop b m x = Between (m .«min_thrust») x (m .«max_thrust») × (b ≡ true → Ieee.eq x (m .«max_thrust») ≡ true)
+InSpanAtTop b limits x = Between (limits .«min_thrust») x (limits .«max_thrust») × (b ≡ true → Ieee.eq x (limits .«max_thrust») ≡ true)
 
 -- thrust by whether underspeed stands
 abbrev thrustBy : Bool → Float → TecsConfig → Limits → Energies → Float → Float → ThrustResult
-thrustBy b i t m e dt roll = cond b (record { thrust = m .«max_thrust»; integral = i }) (balancedThrust i t m e dt roll)
+thrustBy b i t limits e dt roll = cond b (record { thrust = limits .«max_thrust»; integral = i }) (balancedThrust i t limits e dt roll)
 
-thrust-within : (u : ℕ) (i : Float) (t : TecsConfig) (m : Limits) (e : Energies) (dt roll : Float) →
-    le (m .«min_thrust») (m .«max_thrust») ≡ true → finite (thrust u i t m e dt roll .thrust) ≡ true →
-    InSpanAtTop (flag u) m (thrust u i t m e dt roll .thrust)
+thrust-within : (u : ℕ) (i : Float) (t : TecsConfig) (limits : Limits) (e : Energies) (dt roll : Float) →
+    le (limits .«min_thrust») (limits .«max_thrust») ≡ true → finite (thrust u i t limits e dt roll .thrust) ≡ true →
+    InSpanAtTop (flag u) limits (thrust u i t limits e dt roll .thrust)
 unfolding thrust balancedThrust
-thrust-within u i t m e dt roll o f = go (flag u) f
+thrust-within u i t limits e dt roll o f = go (flag u) f
   where
-    go : (b : Bool) → finite (thrustBy b i t m e dt roll .thrust) ≡ true → InSpanAtTop b m (thrustBy b i t m e dt roll .thrust)
+    go : (b : Bool) → finite (thrustBy b i t limits e dt roll .thrust) ≡ true → InSpanAtTop b limits (thrustBy b i t limits e dt roll .thrust)
     go true f =
-        let n = right-number (m .«min_thrust») (m .«max_thrust») o in
-        (record { from = o; to = le-self (m .«max_thrust») n }, λ u. eq-self (m .«max_thrust») n)
+        let n = right-number (limits .«min_thrust») (limits .«max_thrust») o in
+        (record { from = o; to = le-self (limits .«max_thrust») n }, λ u. eq-self (limits .«max_thrust») n)
     go false f = (span _ _ _ (finite-number _ f) o, λ u. never u)
 
-pitch-within : (u : ℕ) (i : Float) (t : TecsConfig) (m : Limits) (e : Energies) (dt : Float) →
-    le (neg (m .«pitch_down_rad»)) (m .«pitch_up_rad») ≡ true → finite (pitch u i t m e dt .«pitch_rad») ≡ true →
-    Between (neg (m .«pitch_down_rad»)) (pitch u i t m e dt .«pitch_rad») (m .«pitch_up_rad»)
+pitch-within : (u : ℕ) (i : Float) (t : TecsConfig) (limits : Limits) (e : Energies) (dt : Float) →
+    le (neg (limits .«pitch_down_rad»)) (limits .«pitch_up_rad») ≡ true → finite (pitch u i t limits e dt .«pitch_rad») ≡ true →
+    Between (neg (limits .«pitch_down_rad»)) (pitch u i t limits e dt .«pitch_rad») (limits .«pitch_up_rad»)
 unfolding pitch
-pitch-within u i t m e dt o f = span _ _ _ (finite-number _ f) o
+pitch-within u i t limits e dt o f = span _ _ _ (finite-number _ f) o
 
 -- the flag that the energy step stores is underspeed as the calls give it
 flag-cond : (a b : Bool) (was : ℕ) → flag (cond a 1 (cond b 0 was)) ≡ cond a true (cond b false (flag was))
@@ -239,10 +239,10 @@ module _ (g : PlaneGuidance) (dt : Float) (w : WaypointCommand) (s : VehicleStat
       EnergyLimits (then Energy) cap (result Energy .«pitch_rad») (result Energy .thrust)
   unfolding vertical energyStep limitsOf inputs
   energy-within fp ft =
-      let m = limitsOf (g .config) cap in
-      let t = thrust-within (updateUnderspeed (g .tecs .underspeed) (g .config .tecs) (orZero (validAirspeed s))) _ _ m _ _ _ (thrust-span (g .config) v) ft in
+      let limits = limitsOf (g .config) cap in
+      let t = thrust-within (updateUnderspeed (g .tecs .underspeed) (g .config .tecs) (orZero (validAirspeed s))) _ _ limits _ _ _ (thrust-span (g .config) v) ft in
       record {
-        pitch-within = pitch-within _ _ _ m _ _ (pitch-span (g .config) cap v q) fp;
+        pitch-within = pitch-within _ _ _ limits _ _ (pitch-span (g .config) cap v q) fp;
         thrust-within = t .0;
         thrust-top = λ u. t .1 (flag-updated (g .tecs .underspeed) (g .config .tecs) (orZero (validAirspeed s)) ∙ u);
       }

@@ -19,7 +19,8 @@ use Rattle.laws.specs.declared.types.ControlInput.the-variants as Input
 use Rattle.laws.specs.declared.types.WaypointCommand.{WaypointCommand}
 use Rattle.laws.specs.declared.types.FlightRegime.{FlightRegime}
 use Rattle.laws.specs.declared.types.VehicleState.{VehicleState}
-use Rattle.guidance.specs.Plane.{fresh, limitsOf, inputs, badTimeStep, badCap}
+use Rattle.guidance.specs.Plane as Plane
+use Rattle.guidance.specs.Plane.{fresh, limitsOf, badTimeStep, badCap}
 use Rattle.claims.specs.Calls.{Call, guide, after}
 
 -- low is at most high: then neither is NaN
@@ -37,20 +38,20 @@ pub record FixedBounds : Type 0 where
   pub capture : Ordered (neg fracPi4) fracPi4
 
 -- an energy step's, in the order in which it comes to them
-pub record EnergyBounds (t : TecsConfig) (limits : Limits) (f : Inputs) : Type 0 where
+pub record EnergyBounds (t : TecsConfig) (limits : Limits) (inputs : Inputs) : Type 0 where
   -- seedDemand
   pub climb : Ordered (neg (t .«max_sink_mps»)) (t .«max_climb_mps»)
   -- clampAirspeed
   pub airspeed : Ordered (t .«min_airspeed_mps») (greatest (t .«max_airspeed_mps») (t .«min_airspeed_mps»))
   -- slewedHeight
-  pub rise : Ordered (neg (t .«max_sink_mps») ·ᶠ f .dt) (t .«max_climb_mps» ·ᶠ f .dt)
+  pub rise : Ordered (neg (t .«max_sink_mps») ·ᶠ inputs .dt) (t .«max_climb_mps» ·ᶠ inputs .dt)
   pub height :
       let window = greatest (t .«time_constant_s») (t .«height_demand_time_constant_s») in
-      Ordered (f .«height_m» -ᶠ window ·ᶠ t .«max_sink_mps») (f .«height_m» +ᶠ window ·ᶠ t .«max_climb_mps»)
+      Ordered (inputs .«height_m» -ᶠ window ·ᶠ t .«max_sink_mps») (inputs .«height_m» +ᶠ window ·ᶠ t .«max_climb_mps»)
   -- slewedAirspeed, with the speed that energyStep hands it
   pub acceleration :
-      let maxAccel = half ·ᶠ maxEnergyRate t /ᶠ greatest (f .«airspeed_mps») minGainAirspeed in
-      Ordered (neg maxAccel ·ᶠ f .dt) (maxAccel ·ᶠ f .dt)
+      let maxAccel = half ·ᶠ maxEnergyRate t /ᶠ greatest (inputs .«airspeed_mps») minGainAirspeed in
+      Ordered (neg maxAccel ·ᶠ inputs .dt) (maxAccel ·ᶠ inputs .dt)
   -- energiesOf and pitch
   pub balance-rate : Ordered (leastEnergyRate t) (maxEnergyRate t)
   -- balancedThrust
@@ -78,7 +79,7 @@ pub record FallbackBounds (c : PlaneGuidanceConfig) (limits : Limits) : Type 0 w
 -- A waypoint's: with the configuration c and a call that numbers 2 and 3 do not refuse, whatever the stored state. An energy step's
 -- inputs are finite.
 pub record WaypointBounds (c : PlaneGuidanceConfig) (dt : Float) (w : WaypointCommand) (s : VehicleState) (cap : OptionF32) : Type 0 where
-  pub energy : allInputsFinite (inputs dt w s) ≡ true → EnergyBounds (c .tecs) (limitsOf c cap) (inputs dt w s)
+  pub energy : allInputsFinite (Plane.inputs dt w s) ≡ true → EnergyBounds (c .tecs) (limitsOf c cap) (Plane.inputs dt w s)
   pub fallback : FallbackBounds c (limitsOf c cap)
 
 -- Of every list of calls from a fresh guidance with the configuration c: every waypoint call in it, by the configuration of that moment.

@@ -11,7 +11,7 @@ ghost use Rattle.replay.specs.Sizes.{textRoom};
 ghost use Rattle.desk.specs.Shown.{Shown};
 
 // 4,097 lines of 80 bytes: room for every text.
-const TEXT_ROOM: usize = 327760;
+const TEXT_ROOM: usize = 4097 * 80;
 
 const STANDARD_OUTPUT: i32 = 1;
 

@@ -36,12 +36,12 @@ use Rattle.edition_laws.specs.Laws.{EditionLaws, EditionLongest, Unnamed
 -- ---- bit 22
 
 -- a map in which bit 22 stands is no map of fields
-above : (map : ℕ) → bit 22 map ≡ true → 4194304 ≤ map
-above map e = omega (arith, eqb-true (map / 4194304 % 2) 1 e)
+above : (map : ℕ) → bit 22 map ≡ true → 2 ^ 22 ≤ map
+above map e = omega (arith, eqb-true (map / 2 ^ 22 % 2) 1 e)
 
 incomplete : (map : ℕ) → bit 22 map ≡ true → complete map ≡ false
 unfolding complete
-incomplete map e = rw (fields-long, le-ltb map 4194304 (above map e))
+incomplete map e = rw (fields-long, le-ltb map (2 ^ 22) (above map e))
 
 pub unnamed : Unnamed
 unfolding readCall
@@ -170,7 +170,7 @@ module _ (s : List ℕ) (at : ℕ) where
     plain-map : numberAt 4 plainAt ≡ fieldsAt
     plain-map = number-back 4 fieldsAt (turned callFields 0 fieldsAt (drop 4 (drop at s))) (omega (arith, small))
       where
-        small : fieldsAt < 4294967296
+        small : fieldsAt < 2 ^ 32
         small = omega (arith, below-mark fieldsAt (read-is .1))
 
     place-is : found .0 ≡ sizeAt

@@ -25,9 +25,9 @@ atAltitude x =
     })
     number.None
 
--- -0, 80000000
+-- -0
 abbrev pub minusZero : Float
-minusZero = ofBits binary32 2147483648
+minusZero = ofBits binary32 0x80000000
 
 pub record Cases : Type 0 where
   -- +0 is left out, -0 is 00000000, NaN is ffc00000

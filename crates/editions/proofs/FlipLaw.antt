@@ -22,19 +22,19 @@ use Rattle.editions.specs.code.Steps.{turnedField, turned}
 -- ---- a number
 
 -- flipping twice is nothing
-pub flip-twice : (v : ℕ) → v < 4294967296 → flip (flip v) ≡ v
+pub flip-twice : (v : ℕ) → v < 2 ^ 32 → flip (flip v) ≡ v
 flip-twice v h = omega arith
 
-flip-low : (v : ℕ) → flip (v % 4294967296) ≡ flip v
+flip-low : (v : ℕ) → flip (v % 2 ^ 32) ≡ flip v
 flip-low v = omega arith
 
 -- the number that was written is the value's low 32 bits
-number-low : (v : ℕ) (rest : List ℕ) → numberAt 4 (bytesOf 4 v ++ rest) ≡ v % 4294967296
+number-low : (v : ℕ) (rest : List ℕ) → numberAt 4 (bytesOf 4 v ++ rest) ≡ v % 2 ^ 32
 unfolding numberAt bytesOf
 number-low v rest =
-    let a : v % 4294967296 ≡ v / 256 % 16777216 * 256 + v % 256 = mod-mul v {m = 16777216} {c = 256} (lit< tt) (lit< tt) in
-    let b : v / 256 % 16777216 ≡ v / 256 / 256 % 65536 * 256 + v / 256 % 256 = mod-mul (v / 256) {m = 65536} {c = 256} (lit< tt) (lit< tt) in
-    let c : v / 256 / 256 % 65536 ≡ v / 256 / 256 / 256 % 256 * 256 + v / 256 / 256 % 256 = mod-mul (v / 256 / 256) {m = 256} {c = 256} (lit< tt) (lit< tt) in
+    let a : v % 2 ^ 32 ≡ v / 256 % 2 ^ 24 * 256 + v % 256 = mod-mul v {m = 2 ^ 24} {c = 256} (lit< tt) (lit< tt) in
+    let b : v / 256 % 2 ^ 24 ≡ v / 256 / 256 % 2 ^ 16 * 256 + v / 256 % 256 = mod-mul (v / 256) {m = 2 ^ 16} {c = 256} (lit< tt) (lit< tt) in
+    let c : v / 256 / 256 % 2 ^ 16 ≡ v / 256 / 256 / 256 % 256 * 256 + v / 256 / 256 % 256 = mod-mul (v / 256 / 256) {m = 256} {c = 256} (lit< tt) (lit< tt) in
     omega (arith, a, b, c)
 
 -- the number that was written, flipped
@@ -42,7 +42,7 @@ flip-written : (v : ℕ) (rest : List ℕ) → flip (numberAt 4 (bytesOf 4 v ++ 
 flip-written v rest = ap flip (number-low v rest) ∙ flip-low v
 
 flip-back : (v : ℕ) (rest : List ℕ) → numberAt 4 (bytesOf 4 (flip v) ++ rest) ≡ flip v
-flip-back v rest = number-back 4 (flip v) rest (mod-lt (v + 2147483648) (lit< tt))
+flip-back v rest = number-back 4 (flip v) rest (mod-lt (v + 2 ^ 31) (lit< tt))
 
 number-front : (b : ℕ) (s rest : List ℕ) → b ≤ length s → numberAt b (take b s ++ rest) ≡ numberAt b s
 number-front b s rest h = same-map b b (take b s ++ rest) s (take-at (take b s) rest b (length-take-le b s h)) (omega arith)

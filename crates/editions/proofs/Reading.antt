@@ -32,35 +32,35 @@ first-of true b c e = refl
 first-of false b c e = absurd (subst T (sym e) tt)
 
 -- a complete map names only fields
-pub below-mark : (m : ℕ) → complete m ≡ true → m < 4194304
+pub below-mark : (m : ℕ) → complete m ≡ true → m < 2 ^ 22
 unfolding complete
-below-mark m e = ltb-true m 4194304 (rw fields-long at (first-of (named callFields m) (stands m) (eqb (m / 2 ^ 9 % 2) (m / 2 ^ 10 % 2)) e))
+below-mark m e = ltb-true m (2 ^ 22) (rw fields-long at (first-of (named callFields m) (stands m) (eqb (m / 2 ^ 9 % 2) (m / 2 ^ 10 % 2)) e))
 
-module _ (m : ℕ) (h : m < 4194304) where
+module _ (m : ℕ) (h : m < 2 ^ 22) where
   pub marked : bit 22 (mark + m) ≡ true
-  marked = eq-eqb ((4194304 + m) / 4194304 % 2) 1 (omega arith)
+  marked = eq-eqb ((2 ^ 22 + m) / 2 ^ 22 % 2) 1 (omega arith)
 
   pub without : mark + m - mark ≡ m
   without = omega arith
 
 -- what the code takes for the fields' map
-pub fields-are : (map b m : ℕ) → b ≡ map / 4194304 % 2 → m ≡ map - 4194304 * b → fieldsOf map ≡ m
-fields-are map b m eb em = go (eqb (map / 4194304 % 2) 1) refl
+pub fields-are : (map b m : ℕ) → b ≡ map / 2 ^ 22 % 2 → m ≡ map - 2 ^ 22 * b → fieldsOf map ≡ m
+fields-are map b m eb em = go (eqb (map / 2 ^ 22 % 2) 1) refl
   where
-    go : (t : Bool) → eqb (map / 4194304 % 2) 1 ≡ t → cond t (map - 4194304) map ≡ m
-    go true e = omega (arith, eqb-true (map / 4194304 % 2) 1 e)
+    go : (t : Bool) → eqb (map / 2 ^ 22 % 2) 1 ≡ t → cond t (map - 2 ^ 22) map ≡ m
+    go true e = omega (arith, eqb-true (map / 2 ^ 22 % 2) 1 e)
     go false e =
-        let n : map / 4194304 % 2 ≡ 1 → ⊥ = eqb-false (map / 4194304 % 2) 1 e in
-        let z : map / 4194304 % 2 ≡ 0 = omega arith in
+        let n : map / 2 ^ 22 % 2 ≡ 1 → ⊥ = eqb-false (map / 2 ^ 22 % 2) 1 e in
+        let z : map / 2 ^ 22 % 2 ≡ 0 = omega arith in
         omega arith
 
-pub of-edition : (e : Edition) (map b : ℕ) → b ≡ map / 4194304 % 2 → b ≡ markOf e → isOf e map ≡ true
-of-edition First map b eb em = rw (ne-eqb (map / 4194304 % 2) 1 (λ (q : map / 4194304 % 2 ≡ 1). omega arith))
-of-edition Second map b eb em = eq-eqb (map / 4194304 % 2) 1 (omega arith)
+pub of-edition : (e : Edition) (map b : ℕ) → b ≡ map / 2 ^ 22 % 2 → b ≡ markOf e → isOf e map ≡ true
+of-edition First map b eb em = rw (ne-eqb (map / 2 ^ 22 % 2) 1 (λ (q : map / 2 ^ 22 % 2 ≡ 1). omega arith))
+of-edition Second map b eb em = eq-eqb (map / 2 ^ 22 % 2) 1 (omega arith)
 
-pub of-other : (e : Edition) (map b : ℕ) → b ≡ map / 4194304 % 2 → (b ≡ markOf e → ⊥) → isOf e map ≡ false
-of-other First map b eb em = rw (eq-eqb (map / 4194304 % 2) 1 (let n : map / 4194304 % 2 ≡ 0 → ⊥ = λ (q : map / 4194304 % 2 ≡ 0). em (eb ∙ q) in omega arith))
-of-other Second map b eb em = ne-eqb (map / 4194304 % 2) 1 (λ (q : map / 4194304 % 2 ≡ 1). em (eb ∙ q))
+pub of-other : (e : Edition) (map b : ℕ) → b ≡ map / 2 ^ 22 % 2 → (b ≡ markOf e → ⊥) → isOf e map ≡ false
+of-other First map b eb em = rw (eq-eqb (map / 2 ^ 22 % 2) 1 (let n : map / 2 ^ 22 % 2 ≡ 0 → ⊥ = λ (q : map / 2 ^ 22 % 2 ≡ 0). em (eb ∙ q) in omega arith))
+of-other Second map b eb em = ne-eqb (map / 2 ^ 22 % 2) 1 (λ (q : map / 2 ^ 22 % 2 ≡ 1). em (eb ∙ q))
 
 -- ---- outcomes before the fields
 
@@ -70,7 +70,7 @@ module _ (e : Edition) (s : List ℕ) (at : ℕ) where
   cut h = rw (lt-leb (at + 4) (length s) h)
 
   module _ (h : at + 4 ≤ length s) (map : ℕ) (em : map ≡ numberAt 4 (take (length s - at) (drop at s))) (b m : ℕ)
-      (eb : b ≡ map / 4194304 % 2) (ef : m ≡ map - 4194304 * b) where
+      (eb : b ≡ map / 2 ^ 22 % 2) (ef : m ≡ map - 2 ^ 22 * b) where
     pub is-map : numberAt 4 (drop at s) ≡ map
     is-map = ap (numberAt 4) (sym (rest-is s at)) ∙ sym em
 
@@ -86,7 +86,7 @@ module _ (e : Edition) (s : List ℕ) (at : ℕ) where
 
 -- the first edition is read by the call reader
 module _ (s : List ℕ) (at : ℕ) (h : at + 4 ≤ length s) (map : ℕ) (em : map ≡ numberAt 4 (take (length s - at) (drop at s)))
-    (b m : ℕ) (eb : b ≡ map / 4194304 % 2) (ef : m ≡ map - 4194304 * b) where
+    (b m : ℕ) (eb : b ≡ map / 2 ^ 22 % 2) (ef : m ≡ map - 2 ^ 22 * b) where
   pub first-is : (e : Edition) → b ≡ markOf e → b ≡ 0 → complete m ≡ true → readCall s at ≡ readAs e s at
   unfolding readAs readCall
   first-is First ew z q =

@@ -61,7 +61,7 @@ module _ (c : Call) where
   unfolding valuesOf
   values-long = rw (bits-length (partsOf c .numbers), parts-long c, fields-long)
 
-  pub map-below : Map < 4194304
+  pub map-below : Map < 2 ^ 22
   unfolding mapOfParts
   map-below = rw fields-long at (map-small callFields (1 ∷ 0 ∷ partsOf c .keeps) Values)
 

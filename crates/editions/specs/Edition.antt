@@ -26,9 +26,9 @@ use Rattle.editions.specs.declared.Converted.the-variants.{Places, Refus
 abbrev pub isDown : ℕ → Bool
 isDown n = eqb n 11 || eqb n 15 || eqb n 18
 
--- the bits of a number with the sign bit flipped: 2 ^ 31 added modulo 2 ^ 32
+-- the bits of a number with the sign bit flipped
 abbrev pub flip : ℕ → ℕ
-flip v = (v + 2147483648) % 4294967296
+flip v = (v + 2 ^ 31) % 2 ^ 32
 
 -- the values of fields, the first of them bit n: as a call has them, and as the second edition stores them
 unfoldable pub flips : ℕ → List ℕ → List ℕ
@@ -42,9 +42,9 @@ flipsStanding n m (v ∷ vs) = cond (stands m && isDown n) (flip v) v ∷ flipsS
 
 -- ---- the map
 
--- "bit 22 standing with no field": 2 ^ 22
+-- "bit 22 standing with no field"
 abbrev pub mark : ℕ
-mark = 4194304
+mark = 2 ^ 22
 
 -- whether a map is one of an edition
 abbrev pub isOf : Edition → ℕ → Bool

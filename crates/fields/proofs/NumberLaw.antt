@@ -128,10 +128,10 @@ nan-of (inf s) e = elim (subst T (sym e) tt) [ ]
 nan-of (fin s m k) e = elim (subst T (sym e) tt) [ ]
 
 -- bits above the infinity's, the sign off, are nan
-pub nan-bits : (n : ℕ) → ltb 2139095040 (n % 2147483648) ≡ true → ofBits binary32 n ≡ nan
+pub nan-bits : (n : ℕ) → ltb 0x7f800000 (n % 0x80000000) ≡ true → ofBits binary32 n ≡ nan
 nan-bits n h = nan-of (ofBits binary32 n) (sym (nanBits-is binary32 n) ∙ nanBits-above binary32 n ∙ h)
 
-pub no-nan-bits : (n : ℕ) → ltb 2139095040 (n % 2147483648) ≡ false → nanBits binary32 n ≡ false
+pub no-nan-bits : (n : ℕ) → ltb 0x7f800000 (n % 0x80000000) ≡ false → nanBits binary32 n ≡ false
 no-nan-bits n h = nanBits-above binary32 n ∙ h
 
 nan-differs-itself : (x : Float) → isNan x ≡ true → ne x x ≡ true
@@ -144,7 +144,7 @@ same-no-nan x e = go (isNan x) refl
     go true q = sym (nan-differs-itself x q) ∙ e
     go false q = refl
 
-pub bits-of-nan : toBits binary32 nan ≡ 2143289344
+pub bits-of-nan : toBits binary32 nan ≡ 0x7fc00000
 unfolding toBits
 bits-of-nan = refl
 

@@ -254,16 +254,16 @@ heightError w s = w .«altitude_m» -ᶠ s .«position_m» .z
 -- fallback: pitch holds the altitude, thrust is cruise and a climb's share; the energy state is cleared
 unfoldable pub fallback : PlaneGuidanceConfig → PiLoop → Float → WaypointCommand → VehicleState → OptionF32 → Vertical
 fallback c altitude dt w s cap =
-    let m = limitsOf c cap in
+    let limits = limitsOf c cap in
     let trim = c .«trim_pitch_rad» in
     let r =
     piStep altitude dt (heightError w s) (c .«altitude_p») (c .«altitude_i») (c .«altitude_max_integral»)
-    (neg (m .«pitch_down_rad») -ᶠ trim) (m .«pitch_up_rad» -ᶠ trim) n0
+    (neg (limits .«pitch_down_rad») -ᶠ trim) (limits .«pitch_up_rad» -ᶠ trim) n0
     in
     let pitch = trim +ᶠ r .output in
     record {
       «pitch_rad» = pitch;
-      thrust = clamp (c .«cruise_thrust» +ᶠ c .«climb_thrust_per_rad» ·ᶠ (pitch -ᶠ trim)) (m .«min_thrust») (m .«max_thrust»);
+      thrust = clamp (c .«cruise_thrust» +ᶠ c .«climb_thrust_per_rad» ·ᶠ (pitch -ᶠ trim)) (limits .«min_thrust») (limits .«max_thrust»);
       altitude = r .pi;
       tecs = reset;
     }

@@ -199,7 +199,7 @@ fn fallback(
 ) -> Vertical
     ensures { λ r. ⌜ r ≡ spec.fallback config altitude dt w state cap ⌝ }
 {
-    let m = limits_of(config, cap);
+    let limits = limits_of(config, cap);
     let trim = config.trim_pitch_rad;
     let r = pi_step(
         altitude,
@@ -208,8 +208,8 @@ fn fallback(
         config.altitude_p,
         config.altitude_i,
         config.altitude_max_integral,
-        -m.pitch_down_rad - trim,
-        m.pitch_up_rad - trim,
+        -limits.pitch_down_rad - trim,
+        limits.pitch_up_rad - trim,
         0.0,
     );
     let pitch_rad = trim + r.output;
@@ -217,7 +217,7 @@ fn fallback(
     let pi = r.pi;
     Vertical {
         pitch_rad,
-        thrust: clamp(thrust, m.min_thrust, m.max_thrust),
+        thrust: clamp(thrust, limits.min_thrust, limits.max_thrust),
         altitude: pi,
         tecs: reset(),
     }

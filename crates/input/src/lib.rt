@@ -11,7 +11,7 @@ ghost use Rattle.replay.specs.Sizes.{decisive};
 // One byte more than the largest recording that can be read to its end: 137 bytes of configuration and 4,096 calls of
 // 86 bytes. To desk, compact and agree input left after these is number 9 whatever it is, so the rest is not read; edition has
 // no limit of calls, and refuses input that fills the room.
-pub const INPUT_ROOM: usize = 352394;
+pub const INPUT_ROOM: usize = 137 + 4096 * 86 + 1;
 
 // No line has more bytes.
 const LINE_ROOM: usize = 80;

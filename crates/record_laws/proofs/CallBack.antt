@@ -37,7 +37,6 @@ use Rattle.records.specs.Call.{
   callFields,
   complete,
   unknown,
-  byteAt,
   regimeOf,
   optionOf,
   legOf,
@@ -63,6 +62,7 @@ use Rattle.records.specs.Call.{
   callRecord,
 }
 use Rattle.records.specs.Call as spec
+use Rattle.records.specs.code.Steps.{byteAt}
 use Rattle.record_laws.specs.Laws.{CallF32, CallLaws, CallLongest}
 use Rattle.records.proofs.CallLaw.{fields-long, fields-are, size-is, Numbers, parts-long, regime-le, values-byte, byte-missing}
 
@@ -106,7 +106,7 @@ map-is : (c : Call) → Map c ≡ mapOf callFields (Flags c) (valuesOf (partsOf 
 unfolding mapOfParts
 map-is c = refl
 
-map-below : (c : Call) → Map c < 4194304
+map-below : (c : Call) → Map c < 2 ^ 22
 map-below c = rw (map-is c) (rw fields-long at (map-small callFields (Flags c) (valuesOf (partsOf c))))
 
 pub values-held : (c : Call) → CallF32 c → Held callFields (valuesOf (partsOf c))
@@ -165,7 +165,7 @@ unfolding complete
 complete-is c =
     let nine = rw missing-9 at (bit-is c 9 (lit< tt)) in
     let ten = rw missing-10 at (bit-is c 10 (lit< tt)) in
-    rw (fields-long, lt-ltb (Map c) 4194304 (map-below c), kind-stands c, eq-eqb _ _ (nine ∙ ap bitOf (alike c) ∙ sym ten))
+    rw (fields-long, lt-ltb (Map c) (2 ^ 22) (map-below c), kind-stands c, eq-eqb _ _ (nine ∙ ap bitOf (alike c) ∙ sym ten))
 
 -- ---- a call comes back from its parts
 

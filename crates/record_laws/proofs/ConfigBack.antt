@@ -38,7 +38,7 @@ numbers-length : (c : PlaneGuidanceConfig) → length (numbersOf c) ≡ 33
 unfolding numbersOf
 numbers-length c = refl
 
-map-below : (c : PlaneGuidanceConfig) → configMap c < 8589934592
+map-below : (c : PlaneGuidanceConfig) → configMap c < 2 ^ 33
 unfolding configMap
 map-below c = rw fields-long at (map-small configFields (replicate 33 0) (bitsOf (numbersOf c)))
 
@@ -178,17 +178,17 @@ size-le m = rw (size-is m) (omega (arith, ones-le 33 m))
 longest : List ℕ
 longest = 255 ∷ 255 ∷ 255 ∷ 255 ∷ 1 ∷ replicate 132 0
 
-whole-size : sizeOf configFields 8589934591 ≡ 132
+whole-size : sizeOf configFields (2 ^ 33 - 1) ≡ 132
 unfolding ones
-whole-size = size-is 8589934591
+whole-size = size-is (2 ^ 33 - 1)
 
 -- what it gives
 given : PlaneGuidanceConfig
-given = configOf (floatsOf (valuesAt configFields 8589934591 (drop 5 longest)))
+given = configOf (floatsOf (valuesAt configFields (2 ^ 33 - 1) (drop 5 longest)))
 
 longest-read : readConfig longest 0 ≡ Read given 137
 unfolding longest given readConfig numberAt
-longest-read = rw (named-below 8589934591 (lit< tt), whole-size)
+longest-read = rw (named-below (2 ^ 33 - 1) (lit< tt), whole-size)
 
 pub config-longest : ConfigLongest
 config-longest =

@@ -31,7 +31,6 @@ use Rattle.records.specs.Call.{
   callFields,
   complete,
   unknown,
-  byteAt,
   regimeOf,
   callAt,
   readCall,
@@ -41,9 +40,9 @@ use Rattle.records.specs.Call.{
   partsOf,
   valuesOf,
   mapOfParts,
-  byteOf,
   callRecord,
 }
+use Rattle.records.specs.code.Steps.{byteAt, byteOf}
 
 pub fields-long : length callFields ≡ 22
 unfolding callFields numberFields
@@ -72,7 +71,7 @@ size-is m =
     rw (fields-are, bit-is m, bit-is (m / 2), size-numbers (replicate 20 0) (m / 2 / 2), quarter) (omega arith)
 
 -- the bits from the third on, counted
-pub counted : (m n : ℕ) → n ≡ ones 64 (m / 4 % 1048576) → n ≡ ones 20 (m / 4)
+pub counted : (m n : ℕ) → n ≡ ones 64 (m / 4 % 2 ^ 20) → n ≡ ones 20 (m / 4)
 counted m n e = e ∙ ones-low 20 44 (m / 4)
 
 -- ---- a map in which no number after the first n stands

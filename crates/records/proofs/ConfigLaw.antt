@@ -34,14 +34,14 @@ pub size-is : (m : ℕ) → sizeOf configFields m ≡ 4 * ones 33 m
 size-is m = rw fields-are (size-numbers (bitsOf (numbersOf default)) m ∙ rw (bits-long default))
 
 -- a map with no unnamed bit, counted
-pub counted : (m n : ℕ) → m < 8589934592 → n ≡ ones 64 m → n ≡ ones 33 m
+pub counted : (m n : ℕ) → m < 2 ^ 33 → n ≡ ones 64 m → n ≡ ones 33 m
 counted m n h e = e ∙ ones-below 33 31 m h
 
-pub named-below : (m : ℕ) → m < 8589934592 → named configFields m ≡ true
-named-below m h = rw fields-long (lt-ltb m 8589934592 h)
+pub named-below : (m : ℕ) → m < 2 ^ 33 → named configFields m ≡ true
+named-below m h = rw fields-long (lt-ltb m (2 ^ 33) h)
 
-named-above : (m : ℕ) → 8589934592 ≤ m → named configFields m ≡ false
-named-above m h = rw fields-long (le-ltb m 8589934592 h)
+named-above : (m : ℕ) → 2 ^ 33 ≤ m → named configFields m ≡ false
+named-above m h = rw fields-long (le-ltb m (2 ^ 33) h)
 
 -- ---- reading
 
@@ -55,12 +55,12 @@ module _ (s : List ℕ) (at : ℕ) where
     is-map : numberAt 5 (drop at s) ≡ m
     is-map = ap (numberAt 5) (sym (rest-is s at)) ∙ sym e
 
-    pub unnamed : 8589934592 ≤ m → Refused 6 ≡ readConfig s at
+    pub unnamed : 2 ^ 33 ≤ m → Refused 6 ≡ readConfig s at
     unfolding readConfig
     unnamed b = rw (le-leb (at + 5) (length s) h, is-map, named-above m b)
 
     -- n is what was counted
-    module _ (b : m < 8589934592) (n : ℕ) (en : n ≡ ones 33 m) where
+    module _ (b : m < 2 ^ 33) (n : ℕ) (en : n ≡ ones 33 m) where
       size : 5 + sizeOf configFields m ≡ 5 + 4 * n
       size = rw (size-is m, en)
 

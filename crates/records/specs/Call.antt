@@ -20,7 +20,6 @@ use Rattle.laws.specs.declared.types.VehicleState.{VehicleState}
 use Rattle.fields.specs.Bytes.{numberAt, bytesOf, hasBytes}
 use Rattle.fields.specs.Fields.{Field, stands, named, sizeOf, valuesAt, mapOf, bodyOf, numberFields}
 use Rattle.fields.specs.Numbers.{floatsOf, bitsOf}
-use Rattle.records.specs.declared.call.ByteRead.{ByteRead}
 use Rattle.records.specs.declared.call_writer.Parts.{Parts}
 use Rattle.records.specs.declared.call.Call.{Call}
 use Rattle.records.specs.declared.call.Call.the-variants.{Prime, Attitude, Rate, Waypoint, AbsoluteAttitude, Land, AbsoluteRate}
@@ -46,13 +45,6 @@ complete m = named callFields m && stands m && eqb (m / 2 ^ 9 % 2) (m / 2 ^ 10 %
 -- what 7 refuses: a kind byte above 6, or a regime byte above 1
 unfoldable pub unknown : ℕ → ℕ → Bool
 unknown kind regime = ltb 6 kind || ltb 1 regime
-
--- a field of one byte at a place, or what missing means, and the place after it
-unfoldable pub byteAt : List ℕ → ℕ → ℕ → ℕ → ByteRead
-byteAt s at m missing =
-    cond (stands m)
-    (record { value = numberAt 1 (drop at s); rest = record { at = at + 1 } })
-    (record { value = missing; rest = record { at = at } })
 
 -- 0 copter, 1 plane
 unfoldable pub regimeOf : ℕ → FlightRegime
@@ -202,10 +194,6 @@ valuesOf p = p .kind ∷ p .regime ∷ bitsOf (p .numbers)
 -- the map; the kind is always written
 unfoldable pub mapOfParts : Parts → ℕ
 mapOfParts p = mapOf callFields (1 ∷ 0 ∷ p .keeps) (valuesOf p)
-
--- a field of one byte that is written where its bit stands
-unfoldable pub byteOf : ℕ → ℕ → List ℕ
-byteOf m v = cond (stands m) (bytesOf 1 v) []
 
 -- a call's record
 unfoldable pub callRecord : Call → List ℕ

@@ -21,6 +21,7 @@ ghost use lib.ListN.{length, drop, replicate};
 ghost use Rattle.fields.specs.Fields.{ones, sizeOf, valuesAt, numberFields};
 ghost use Rattle.fields.specs.Numbers.{floatsOf};
 ghost use Rattle.records.specs.Call as spec;
+ghost use Rattle.records.specs.code.Steps.{byteAt};
 
 // The bits of the map that the reader looks at: 0 kind, 1 regime, 2 to 21 numbers, of these 9 and 10 the leg, 20 airspeed and 21 cap.
 const FIRST_NUMBER: u64 = 1 << 2;
@@ -117,7 +118,7 @@ pub struct ByteRead {
 // Reads a field of one byte whose bit stands, or gives what missing means.
 fn read_byte(s: &[u8], from: Cursor, stands: u64, missing: u64) -> ByteRead
     requires { ⌜ from .at + stands % 2 ≤ length (now s) ⌝ }
-    ensures { λ r. ⌜ r ≡ spec.byteAt (now (s .entry)) (from .at) stands missing ⌝ }
+    ensures { λ r. ⌜ r ≡ byteAt (now (s .entry)) (from .at) stands missing ⌝ }
 {
     if stands % 2 == 1 {
         let at = from.at;

@@ -21,6 +21,7 @@ ghost use Rattle.fields.specs.Fields.{ones, sizeOf, isWritten, bitOf, mapOf, bo
 ghost use Rattle.fields.specs.Numbers.{bitsOf};
 ghost use Rattle.fields.specs.Writing.{answerOf, bufferOf};
 ghost use Rattle.records.specs.Call as spec;
+ghost use Rattle.records.specs.code.Steps.{byteOf};
 
 fn regime_byte(regime: FlightRegime) -> u8
     ensures { λ r. ⌜ (r ≡ spec.regimeByte regime) × (r ≤ 1) ⌝ }
@@ -324,7 +325,7 @@ fn record_of(call: Call) -> Record
 // Writes a field of one byte whose bit stands; the place after it.
 fn write_byte(part: &mut [u8], at: usize, stands: u64, value: u8) -> usize
     requires { ⌜ at + stands % 2 ≤ length (now part) ⌝ }
-    ensures { λ r. ⌜ (now (part .exit) ≡ putAt (now (part .entry)) at (spec.byteOf stands value)) × (r ≡ at + stands % 2) ⌝ }
+    ensures { λ r. ⌜ (now (part .exit) ≡ putAt (now (part .entry)) at (byteOf stands value)) × (r ≡ at + stands % 2) ⌝ }
 {
     if stands % 2 == 1 {
         write_number(&mut part[at..], 1, value as u64);

@@ -13,7 +13,7 @@ use fields::write_values;
 use laws::config::PlaneGuidanceConfig;
 ghost use mathlib.Core.Path.{_≡_};
 ghost use mathlib.Core.List.{_++_};
-ghost use Prim.Native.Nat.{_≤_, _<_, _+_, _*_};
+ghost use Prim.Native.Nat.{_≤_, _<_, _+_, _*_, _^_};
 ghost use lib.ListN.{length, replicate};
 ghost use Rattle.laws.specs.Config.{default};
 ghost use Rattle.fields.specs.Bytes.{bytesOf, putAt};
@@ -60,7 +60,7 @@ pub fn read_config(s: &[u8], at: usize) -> ReadConfig
 
 // The map of the numbers that are written: those whose bits are not the default's.
 fn config_map(v: [u32; 33]) -> u64
-    ensures { λ r. ⌜ (r ≡ mapOf configFields (replicate 33 0) v) × (r < 8589934592) ⌝ }
+    ensures { λ r. ⌜ (r ≡ mapOf configFields (replicate 33 0) v) × (r < 2 ^ 33) ⌝ }
 {
     let missing = default_bits();
     changed(&v, &missing)

@@ -18,7 +18,7 @@ const FILL: u8 = 165;
 // A place of an entry; 255 is the largest one.
 fn place_of(b: u8) -> usize {
     if b == 255 {
-        return 18446744073709551615;
+        return 0xffff_ffff_ffff_ffff;
     }
     wide(b)
 }

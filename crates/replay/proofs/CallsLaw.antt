@@ -33,6 +33,7 @@ use Rattle.lines.specs.Line.{text}
 use Rattle.lines.proofs.TextLaw.{text-short}
 use Rattle.replay.specs.declared.turn.CallLine.{CallLine}
 use Rattle.replay.specs.Recording.{Calls, noCalls, onRead, readCalls, stops, recording}
+use Rattle.replay.specs.Sizes.{textRoom}
 use Rattle.replay.specs.Text.{
   refusedLine,
   stoppedLine,
@@ -48,7 +49,7 @@ use Rattle.replay.specs.Text.{
   recordingText,
 }
 use Rattle.replay.specs.code.Performed.{callLine}
-use Rattle.replay.specs.code.Pass.{Prints, callsText}
+use Rattle.replay.specs.code.Pass.{Prints, callsRoom, callsText}
 use Rattle.replay.proofs.PrintLaw.{Printed, printed-none, printed-room, printed-more, printed-all, printed-last, last-room}
 
 -- what the calls from a place on print, of which k may still come, the next with number n
@@ -184,7 +185,7 @@ module _ {s : List ℕ} {from : ℕ} {first : PlaneGuidance} {w : Bool} {out₀ 
 
   -- what `print` asks for a last line, and what it leaves
   pub stop-asks : (r : ℕ) (l : Line) → l ≡ stoppedLine n r → Left (text (stoppedLine n r))
-      → (l .count ≤ 4) × (to ≤ 327680) × (w ≡ true → to + length (text l) ≤ length out)
+      → (l .count ≤ 4) × (to ≤ callsRoom) × (w ≡ true → to + length (text l) ≤ length out)
   stop-asks r l e left = (rw e (stopped-count n r), omega (arith, f .small, f .high), λ (q : w ≡ true). rw e (last-room (text (stoppedLine n r)) left q))
 
   pub stop-ends : (r : ℕ) (l : Line) → l ≡ stoppedLine n r → Left (text (stoppedLine n r)) → (after : List ℕ) (p : ℕ)
@@ -193,7 +194,7 @@ module _ {s : List ℕ} {from : ℕ} {first : PlaneGuidance} {w : Bool} {out₀ 
 
   -- and for a call's line
   pub turn-asks : n ≤ 4096 → at < length s → (call : Call) (next : ℕ) → readCall s at ≡ Read call next → (t : CallLine) → t ≡ callLine n g call
-      → (t .line .count ≤ 4) × (to ≤ 327680) × (w ≡ true → to + length (text (t .line)) ≤ length out)
+      → (t .line .count ≤ 4) × (to ≤ callsRoom) × (w ≡ true → to + length (text (t .line)) ≤ length out)
   turn-asks h l call next e t q =
       (rw q (turn-count n g call), omega (arith, f .small, f .high), λ (z : w ≡ true). printed-room (text (t .line)) _ (left-call h l call next e t q) z)
 
@@ -226,18 +227,18 @@ module _ (s : List ℕ) (c : PlaneGuidanceConfig) (next : ℕ) (e : readConfig s
 
 -- ---- `replay`
 
-calls-short : (s : List ℕ) (at : ℕ) (g : PlaneGuidance) → length (callsText s at g) ≤ 327760
+calls-short : (s : List ℕ) (at : ℕ) (g : PlaneGuidance) → length (callsText s at g) ≤ textRoom
 unfolding callsText
 calls-short s at g = rest-short 4096 1 g s at
 
 -- no text has more than 4,097 lines of 80 bytes
-pub text-fits : (s : List ℕ) → length (recordingText s) ≤ 327760
+pub text-fits : (s : List ℕ) → length (recordingText s) ≤ textRoom
 text-fits s = go (readConfig s 0) refl
   where
-    made : (c : PlaneGuidanceConfig) (next : ℕ) → readConfig s 0 ≡ config.Read c next → (m : Created) → m ≡ created c → length (recordingText s) ≤ 327760
-    made c next e (New.Refused f) q = rw (config-refused s c next e f q) (line-short _ (refused-count 0 f) 327680)
+    made : (c : PlaneGuidanceConfig) (next : ℕ) → readConfig s 0 ≡ config.Read c next → (m : Created) → m ≡ created c → length (recordingText s) ≤ textRoom
+    made c next e (New.Refused f) q = rw (config-refused s c next e f q) (line-short _ (refused-count 0 f) callsRoom)
     made c next e (New.Made g) q = rw (config-made s c next e g q) (calls-short s next g)
 
-    go : (r : ReadConfig) → readConfig s 0 ≡ r → length (recordingText s) ≤ 327760
-    go (config.Refused r) e = rw (config-bad s r e) (line-short _ (stopped-count 0 r) 327680)
+    go : (r : ReadConfig) → readConfig s 0 ≡ r → length (recordingText s) ≤ textRoom
+    go (config.Refused r) e = rw (config-bad s r e) (line-short _ (stopped-count 0 r) callsRoom)
     go (config.Read c next) e = made c next e (created c) refl

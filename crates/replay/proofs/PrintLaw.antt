@@ -15,7 +15,7 @@ use Rattle.fields.proofs.FieldLaw.{rest-is, put-lent}
 use Rattle.lines.specs.declared.Line.{Line}
 use Rattle.lines.specs.Line.{text, Puts}
 use Rattle.lines.proofs.PutLaw.{put-long, put-then}
-use Rattle.replay.specs.code.Pass.{Prints}
+use Rattle.replay.specs.code.Pass.{Prints, callsRoom}
 
 -- room in the rest of a buffer
 pub print-room : (out : List ℕ) (to n : ℕ) → to + n ≤ length out → n ≤ length (take (length out - to) (drop to out))
@@ -86,7 +86,7 @@ module _ {w : Bool} {whole out₀ out : List ℕ} {to : ℕ} where
 -- ---- a text of one line, at the front of the buffer
 
 module _ (w : Bool) (out whole : List ℕ) (l m : Line) (e : l ≡ m) (t : whole ≡ text m) where
-  pub alone-asks : m .count ≤ 4 → (w ≡ true → length whole ≤ length out) → (l .count ≤ 4) × (0 ≤ 327680) × (w ≡ true → 0 + length (text l) ≤ length out)
+  pub alone-asks : m .count ≤ 4 → (w ≡ true → length whole ≤ length out) → (l .count ≤ 4) × (0 ≤ callsRoom) × (w ≡ true → 0 + length (text l) ≤ length out)
   alone-asks h room = (rw e h, omega arith, λ (q : w ≡ true). rw e (omega (arith, room q, ap length t)))
 
   pub alone-prints : (after : List ℕ) (r : ℕ) → Prints w 0 (text l) out after r → Prints w 0 whole out after r

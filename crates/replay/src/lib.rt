@@ -22,7 +22,7 @@ ghost use Rattle.fields.specs.Writing.{answerOf, bufferOf};
 ghost use Rattle.lines.specs.Line.{text};
 ghost use Rattle.replay.specs.Sizes.{textRoom};
 ghost use Rattle.replay.specs.Text.{recordingText};
-ghost use Rattle.replay.specs.code.Pass.{Prints, callsText};
+ghost use Rattle.replay.specs.code.Pass.{Prints, callsRoom, callsText};
 
 // "The desk program has input left after call 4,096".
 const MOST_CALLS: u32 = 4096;
@@ -31,11 +31,11 @@ const MOST_CALLS: u32 = 4096;
 const LINE_ROOM: usize = 80;
 
 // 4,096 calls' lines and one that says why the replay stopped: no text has more bytes.
-const TEXT_ROOM: usize = 327760;
+const TEXT_ROOM: usize = 4097 * LINE_ROOM;
 
 // Prints a line from a place on and answers the place after it, or only measures it: then the buffer is kept.
 fn print(out: &mut [u8], to: usize, write: bool, l: Line) -> usize
-    requires { ⌜ (l .count ≤ 4) × (to ≤ 327680) × (write ≡ true → to + length (text l) ≤ length (now out)) ⌝ }
+    requires { ⌜ (l .count ≤ 4) × (to ≤ callsRoom) × (write ≡ true → to + length (text l) ≤ length (now out)) ⌝ }
     ensures { λ r. ⌜ Prints write to (text l) (now (out .entry)) (now (out .exit)) r ⌝ }
 {
     if write {

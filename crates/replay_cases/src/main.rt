@@ -3,22 +3,29 @@
 use fields::Written;
 use libc::STDOUT_FILENO;
 ghost use mathlib.Core.Path.{_≡_};
-ghost use Prim.Native.Nat.{_≤_};
+ghost use Prim.Native.Nat.{_≤_, _+_};
 ghost use lib.ListN.{length};
+ghost use Rattle.replay.specs.Sizes.{decisive, textRoom};
 
 // What stands in a buffer before a replay.
 const FILL: u8 = 165;
 
-fn recording_room() -> [u8; 352394]
-    ensures { λ r. ⌜ 352394 ≡ length r ⌝ }
+// As much of a recording as the desk program reads: 137 bytes of configuration, 4,096 calls of 86 bytes and one byte more.
+const RECORDING_ROOM: usize = 137 + 4096 * 86 + 1;
+
+// Room for every text, 4,097 lines of 80 bytes, and a byte to spare.
+const TEXT_ROOM: usize = 4097 * 80 + 1;
+
+fn recording_room() -> [u8; RECORDING_ROOM]
+    ensures { λ r. ⌜ decisive ≡ length r ⌝ }
 {
-    [0u8; 352394]
+    [0u8; RECORDING_ROOM]
 }
 
-fn text_room() -> [u8; 327761]
-    ensures { λ r. ⌜ 327761 ≡ length r ⌝ }
+fn text_room() -> [u8; TEXT_ROOM]
+    ensures { λ r. ⌜ textRoom + 1 ≡ length r ⌝ }
 {
-    [FILL; 327761]
+    [FILL; TEXT_ROOM]
 }
 
 fn starts_with(s: &[u8], front: &[u8]) -> bool {
@@ -59,7 +66,7 @@ fn is_right(recording: &[u8], lines: &[u8], out: &mut [u8]) -> bool {
 
 fn fits(recording: &[u8], lines: &[u8], room: usize) -> bool {
     let mut out = text_room();
-    if 327761 < room {
+    if TEXT_ROOM < room {
         return false;
     }
     is_right(recording, lines, &mut out[..room])
@@ -68,7 +75,7 @@ fn fits(recording: &[u8], lines: &[u8], room: usize) -> bool {
 fn agrees(recording: &[u8], lines: &[u8]) -> bool {
     let n = lines.len();
     let short = if n == 0 { 0 } else { n - 1 };
-    fits(recording, lines, 327761) & fits(recording, lines, n) & fits(recording, lines, short)
+    fits(recording, lines, TEXT_ROOM) & fits(recording, lines, n) & fits(recording, lines, short)
 }
 
 // Reads a file to its end; one that is missing has no bytes.

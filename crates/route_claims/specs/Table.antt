@@ -162,7 +162,7 @@ stored =
     record { bytes = 1 ∷ 0 ∷ 0 ∷ 0 ∷ odd 192; gives = 11 ∷ [] } ∷
     record { bytes = 1 ∷ 0 ∷ 0 ∷ 0 ∷ odd 128; gives = 11 ∷ [] } ∷
     record { bytes = 1 ∷ 0 ∷ 0 ∷ 0 ∷ still; gives = 0 ∷ 1 ∷ 4 ∷ 20 ∷ [] } ∷
-    record { bytes = 1 ∷ 0 ∷ 0 ∷ 64 ∷ still ++ still ++ (7 ∷ []); gives = 0 ∷ 1073741825 ∷ 8 ∷ 36 ∷ [] } ∷ []
+    record { bytes = 1 ∷ 0 ∷ 0 ∷ 64 ∷ still ++ still ++ (7 ∷ []); gives = 0 ∷ 0x40000001 ∷ 8 ∷ 36 ∷ [] } ∷ []
 
 -- a point of each map: bit 0 of the first, bits 0 and 30 of the second; and sixty-two points
 abbrev pub threePoints : List ℕ
@@ -186,9 +186,9 @@ long =
     record { bytes = 1 ∷ 0 ∷ 0 ∷ 128 ∷ 1 ∷ 0 ∷ 0 ∷ 0 ∷ odd 192; gives = 5 ∷ [] } ∷
     record { bytes = 1 ∷ 0 ∷ 0 ∷ 128 ∷ 1 ∷ 0 ∷ 0 ∷ 0 ∷ still ++ odd 192; gives = 11 ∷ [] } ∷
     -- an empty first map beside a second; points in both; sixty-two
-    record { bytes = 0 ∷ 0 ∷ 0 ∷ 128 ∷ 1 ∷ 0 ∷ 0 ∷ 0 ∷ still; gives = 0 ∷ 2147483648 ∷ 4 ∷ 24 ∷ [] } ∷
-    record { bytes = threePoints; gives = 0 ∷ 2305843011361177601 ∷ 12 ∷ 56 ∷ [] } ∷
-    record { bytes = allPoints; gives = 0 ∷ 4611686018427387903 ∷ 248 ∷ 1000 ∷ [] } ∷ []
+    record { bytes = 0 ∷ 0 ∷ 0 ∷ 128 ∷ 1 ∷ 0 ∷ 0 ∷ 0 ∷ still; gives = 0 ∷ 0x80000000 ∷ 4 ∷ 24 ∷ [] } ∷
+    record { bytes = threePoints; gives = 0 ∷ 0x2000000080000001 ∷ 12 ∷ 56 ∷ [] } ∷
+    record { bytes = allPoints; gives = 0 ∷ 0x3fffffffffffffff ∷ 248 ∷ 1000 ∷ [] } ∷ []
 
 -- bit 31 to the older reader, also where the length is short
 abbrev pub refusedBefore : List Load

@@ -28,19 +28,19 @@ named b m e = go (ltb m b) refl (eqb m 0) refl e
     go true q false r w = (ltb-true m b q, eqb-false m 0 r)
     go false q z r w = absurd (omega arith)
 
-pub map-is : (m : ℕ) → mapRefusal m ≡ 0 → (m < 4611686018427387904) × (m ≡ 0 → ⊥)
+pub map-is : (m : ℕ) → mapRefusal m ≡ 0 → (m < 2 ^ 62) × (m ≡ 0 → ⊥)
 unfolding mapRefusal
-map-is m e = named 4611686018427387904 m e
+map-is m e = named (2 ^ 62) m e
 
 -- ---- one map or two
 
 -- a map is below 2^31, or it is not
-pub either : {A : Type 0} (m : ℕ) → (m < 2147483648 → A) → (2147483648 ≤ m → A) → A
-either {A} m f g = go (ltb m 2147483648) refl
+pub either : {A : Type 0} (m : ℕ) → (m < 2 ^ 31 → A) → (2 ^ 31 ≤ m → A) → A
+either {A} m f g = go (ltb m (2 ^ 31)) refl
   where
-    go : (b : Bool) → ltb m 2147483648 ≡ b → A
-    go true e = f (ltb-true m 2147483648 e)
-    go false e = g (ltb-false m 2147483648 e)
+    go : (b : Bool) → ltb m (2 ^ 31) ≡ b → A
+    go true e = f (ltb-true m (2 ^ 31) e)
+    go false e = g (ltb-false m (2 ^ 31) e)
 
 -- ---- two maps as one
 
@@ -74,11 +74,11 @@ module _ (s : List ℕ) (at : ℕ) where
     is-first : numberAt 4 (drop at s) ≡ m
     is-first = ap (numberAt 4) (sym (rest-is s at)) ∙ sym e
 
-    pub stands-alone : m < 2147483648 → oneMap m (at + 4) ≡ readMaps s at
+    pub stands-alone : m < 2 ^ 31 → oneMap m (at + 4) ≡ readMaps s at
     unfolding readMaps
-    stands-alone q = rw (le-leb (at + 4) (length s) h, is-first, lt-ltb m 2147483648 q)
+    stands-alone q = rw (le-leb (at + 4) (length s) h, is-first, lt-ltb m (2 ^ 31) q)
 
-    module _ (q : 2147483648 ≤ m) where
+    module _ (q : 2 ^ 31 ≤ m) where
       pub second-cut : length s < at + 8 → loaded.Refused 5 ≡ readMaps s at
       unfolding readMaps
       second-cut k = rw (le-leb (at + 4) (length s) h, is-first, le-ltb _ _ q, lt-leb (at + 8) (length s) k)
@@ -91,21 +91,21 @@ module _ (s : List ℕ) (at : ℕ) where
 
 -- ---- the maps' bytes
 
-pub one-map-bytes : (m : ℕ) → m < 2147483648 → mapsBytes m ≡ bytesOf 4 m
+pub one-map-bytes : (m : ℕ) → m < 2 ^ 31 → mapsBytes m ≡ bytesOf 4 m
 unfolding mapsBytes
-one-map-bytes m h = rw (lt-ltb m 2147483648 h)
+one-map-bytes m h = rw (lt-ltb m (2 ^ 31) h)
 
-pub two-map-bytes : (m : ℕ) → 2147483648 ≤ m → mapsBytes m ≡ bytesOf 4 (2147483648 + m % 2147483648) ++ bytesOf 4 (m / 2147483648)
+pub two-map-bytes : (m : ℕ) → 2 ^ 31 ≤ m → mapsBytes m ≡ bytesOf 4 (2 ^ 31 + m % 2 ^ 31) ++ bytesOf 4 (m / 2 ^ 31)
 unfolding mapsBytes
 two-map-bytes m h = rw (le-ltb _ _ h)
 
-pub one-map-long : (m : ℕ) → m < 2147483648 → length (mapsBytes m) ≡ 4
+pub one-map-long : (m : ℕ) → m < 2 ^ 31 → length (mapsBytes m) ≡ 4
 one-map-long m h = rw (one-map-bytes m h) (bytes-long 4 m)
 
-pub two-maps-long : (m : ℕ) → 2147483648 ≤ m → length (mapsBytes m) ≡ 8
+pub two-maps-long : (m : ℕ) → 2 ^ 31 ≤ m → length (mapsBytes m) ≡ 8
 two-maps-long m h =
-    let a = 2147483648 + m % 2147483648 in
-    let b = m / 2147483648 in
+    let a = 2 ^ 31 + m % 2 ^ 31 in
+    let b = m / 2 ^ 31 in
     rw (two-map-bytes m h) (length-append (bytesOf 4 a) (bytesOf 4 b) ∙ omega (arith, bytes-long 4 a, bytes-long 4 b))
 
 -- ---- where maps stand
@@ -117,50 +117,50 @@ module _ (s : List ℕ) (at m : ℕ) (rest : List ℕ) (e : drop at s ≡ mapsBy
   pub room : at + length (mapsBytes m) ≤ length s
   room =
       let size = maps-size in
-      either m (λ (h : m < 2147483648). omega (arith, one-map-long m h)) (λ (h : 2147483648 ≤ m). omega (arith, two-maps-long m h))
+      either m (λ (h : m < 2 ^ 31). omega (arith, one-map-long m h)) (λ (h : 2 ^ 31 ≤ m). omega (arith, two-maps-long m h))
 
-  pub alone-is : m < 2147483648 → numberAt 4 (drop at s) ≡ m
+  pub alone-is : m < 2 ^ 31 → numberAt 4 (drop at s) ≡ m
   alone-is h = rw (e, one-map-bytes m h) (number-back 4 m rest (omega arith))
 
-  module _ (h : 2147483648 ≤ m) where
-    both-are : drop at s ≡ bytesOf 4 (2147483648 + m % 2147483648) ++ (bytesOf 4 (m / 2147483648) ++ rest)
-    both-are = e ∙ rw (two-map-bytes m h) (append-assoc (bytesOf 4 (2147483648 + m % 2147483648)) (bytesOf 4 (m / 2147483648)) rest)
+  module _ (h : 2 ^ 31 ≤ m) where
+    both-are : drop at s ≡ bytesOf 4 (2 ^ 31 + m % 2 ^ 31) ++ (bytesOf 4 (m / 2 ^ 31) ++ rest)
+    both-are = e ∙ rw (two-map-bytes m h) (append-assoc (bytesOf 4 (2 ^ 31 + m % 2 ^ 31)) (bytesOf 4 (m / 2 ^ 31)) rest)
 
-    pub first-is : numberAt 4 (drop at s) ≡ 2147483648 + m % 2147483648
-    first-is = rw both-are (number-back 4 (2147483648 + m % 2147483648) (bytesOf 4 (m / 2147483648) ++ rest) (omega arith))
+    pub first-is : numberAt 4 (drop at s) ≡ 2 ^ 31 + m % 2 ^ 31
+    first-is = rw both-are (number-back 4 (2 ^ 31 + m % 2 ^ 31) (bytesOf 4 (m / 2 ^ 31) ++ rest) (omega arith))
 
-    pub second-is : m < 4611686018427387904 → numberAt 4 (drop (at + 4) s) ≡ m / 2147483648
+    pub second-is : m < 2 ^ 62 → numberAt 4 (drop (at + 4) s) ≡ m / 2 ^ 31
     second-is k =
-        let after : drop (at + 4) s ≡ bytesOf 4 (m / 2147483648) ++ rest =
-        sym (drop-drop 4 at s) ∙ rw both-are (drop-bytes 4 (2147483648 + m % 2147483648) (bytesOf 4 (m / 2147483648) ++ rest)) in
-        rw after (number-back 4 (m / 2147483648) rest (omega arith))
+        let after : drop (at + 4) s ≡ bytesOf 4 (m / 2 ^ 31) ++ rest =
+        sym (drop-drop 4 at s) ∙ rw both-are (drop-bytes 4 (2 ^ 31 + m % 2 ^ 31) (bytesOf 4 (m / 2 ^ 31) ++ rest)) in
+        rw after (number-back 4 (m / 2 ^ 31) rest (omega arith))
 
 -- which of them the size tells
-pub is-one : (m k : ℕ) → k ≡ length (mapsBytes m) → k ≡ 4 → m < 2147483648
-is-one m k e h = either m (λ (low : m < 2147483648). low) (λ (high : 2147483648 ≤ m). omega (arith, two-maps-long m high))
+pub is-one : (m k : ℕ) → k ≡ length (mapsBytes m) → k ≡ 4 → m < 2 ^ 31
+is-one m k e h = either m (λ (low : m < 2 ^ 31). low) (λ (high : 2 ^ 31 ≤ m). omega (arith, two-maps-long m high))
 
-pub is-two : (m k : ℕ) → k ≡ length (mapsBytes m) → (k ≡ 4 → ⊥) → 2147483648 ≤ m
-is-two m k e h = either m (λ (low : m < 2147483648). absurd (h (e ∙ one-map-long m low))) (λ (high : 2147483648 ≤ m). high)
+pub is-two : (m k : ℕ) → k ≡ length (mapsBytes m) → (k ≡ 4 → ⊥) → 2 ^ 31 ≤ m
+is-two m k e h = either m (λ (low : m < 2 ^ 31). absurd (h (e ∙ one-map-long m low))) (λ (high : 2 ^ 31 ≤ m). high)
 
 -- ---- writing
 
-pub wrote-one : (part p : List ℕ) (m : ℕ) → m < 2147483648 → p ≡ bytesOf 4 m ++ drop 4 part → p ≡ mapsBytes m ++ drop (length (mapsBytes m)) part
+pub wrote-one : (part p : List ℕ) (m : ℕ) → m < 2 ^ 31 → p ≡ bytesOf 4 m ++ drop 4 part → p ≡ mapsBytes m ++ drop (length (mapsBytes m)) part
 wrote-one part p m h e = rw (one-map-long m h, one-map-bytes m h) e
 
 -- q is what the first map's writing left, p what the second's left of the part behind it
-module _ (part : List ℕ) (m : ℕ) (h : 2147483648 ≤ m) (room : length (mapsBytes m) ≤ length part) where
+module _ (part : List ℕ) (m : ℕ) (h : 2 ^ 31 ≤ m) (room : length (mapsBytes m) ≤ length part) where
   abbrev First : List ℕ
-  First = bytesOf 4 (2147483648 + m % 2147483648)
+  First = bytesOf 4 (2 ^ 31 + m % 2 ^ 31)
 
   abbrev Second : List ℕ
-  Second = bytesOf 4 (m / 2147483648)
+  Second = bytesOf 4 (m / 2 ^ 31)
 
   pub eight : 8 ≤ length part
   eight = omega (arith, two-maps-long m h)
 
   module _ (q : List ℕ) (eq : q ≡ First ++ drop 4 part) where
     pub length-kept : length q ≡ length part
-    length-kept = rw eq (simp (length-append, length-drop) (omega (arith, bytes-long 4 (2147483648 + m % 2147483648), eight)))
+    length-kept = rw eq (simp (length-append, length-drop) (omega (arith, bytes-long 4 (2 ^ 31 + m % 2 ^ 31), eight)))
 
     pub second-fits : 4 ≤ length (take (length q - 4) (drop 4 q))
     second-fits = rw (rest-is q 4) (simp length-drop (omega (arith, length-kept, eight)))
@@ -169,6 +169,6 @@ module _ (part : List ℕ) (m : ℕ) (h : 2147483648 ≤ m) (room : length (maps
         → putMid 4 (length q - 4) q p ≡ mapsBytes m ++ drop (length (mapsBytes m)) part
     wrote-two p ep =
         let z : 0 + length (mapsBytes m) ≡ length (mapsBytes m) = omega arith in
-        let two = put-front q p 4 4 Second (bytes-long 4 (m / 2147483648)) (omega (arith, length-kept, eight)) ep in
-        let all = put-after 4 part q (putMid 4 (length q - 4) q p) First Second (bytes-long 4 (2147483648 + m % 2147483648)) (omega (arith, eight)) eq two in
+        let two = put-front q p 4 4 Second (bytes-long 4 (m / 2 ^ 31)) (omega (arith, length-kept, eight)) ep in
+        let all = put-after 4 part q (putMid 4 (length q - 4) q p) First Second (bytes-long 4 (2 ^ 31 + m % 2 ^ 31)) (omega (arith, eight)) eq two in
         rw z at (rw (← two-map-bytes m h) at all)

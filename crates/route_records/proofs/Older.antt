@@ -2,7 +2,7 @@
 use mathlib.Core.Path.{_≡_, refl, subst, _∙_}
 use mathlib.Core.Bool.{Bool, true, false, cond, not}
 use mathlib.Core.List.{List, _++_, append-assoc}
-use Prim.Native.Nat.{ℕ, _+_, _*_, _%_, _<_, _≤_}
+use Prim.Native.Nat.{ℕ, _+_, _*_, _%_, _<_, _≤_, _^_}
 use native.Mathlib.Omega.{arith}
 use borrow.Author.Tests.{le-leb, lt-ltb, le-ltb, ne-eqb, eqb-true, leb-true}
 use lib.Dec.{eqb, leb}
@@ -37,9 +37,9 @@ use Rattle.route_records.specs.Laws.{AreBytes, StoredKept, OlderDisplay}
 use Rattle.route_records.proofs.MapsLaw.{named, one-map-bytes, two-maps-long, room, first-is}
 use Rattle.route_records.proofs.RouteBack.{record-is, route-kept}
 
-older-map : (m : ℕ) → olderMapRefusal m ≡ 0 → (m < 2147483648) × (m ≡ 0 → ⊥)
+older-map : (m : ℕ) → olderMapRefusal m ≡ 0 → (m < 2 ^ 31) × (m ≡ 0 → ⊥)
 unfolding olderMapRefusal
-older-map m e = named 2147483648 m e
+older-map m e = named (2 ^ 31) m e
 
 -- ---- stored routes
 
@@ -53,7 +53,7 @@ inverted true true false f k v r n next e = let z : _≡_ {A = ℕ} 0 1 = cc in 
 inverted true false d f k v r n next e = let z : _≡_ {A = ℕ} 0 1 = cc in absurd (omega arith)
 inverted false z d f k v r n next e = let z : _≡_ {A = ℕ} 0 1 = cc in absurd (omega arith)
 
-same-record : (r : Route) → r .map < 2147483648 → routeRecord r ≡ olderRouteRecord r
+same-record : (r : Route) → r .map < 2 ^ 31 → routeRecord r ≡ olderRouteRecord r
 unfolding routeRecord olderRouteRecord
 same-record r h = rw (one-map-bytes (r .map) h)
 
@@ -72,12 +72,12 @@ module _ (s : List ℕ) (at : ℕ) (r : Route) (next : ℕ) (e : olderReadRoute 
   unfolding olderReadRoute
   answered = inverted (hasBytes s at 4) (eqb (olderMapRefusal Map) 0) (hasBytes s at (4 + 4 * Count)) (allFinite Numbers) (olderMapRefusal Map) _ r _ next e
 
-  map-is : (Map < 2147483648) × (Map ≡ 0 → ⊥)
+  map-is : (Map < 2 ^ 31) × (Map ≡ 0 → ⊥)
   map-is = older-map Map (eqb-true (olderMapRefusal Map) 0 (answered .1))
 
   maps-are : readMaps s at ≡ loaded.Read Map (at + 4)
   unfolding readMaps oneMap
-  maps-are = rw (answered .0, lt-ltb Map 2147483648 (map-is .0), ne-eqb Map 0 (map-is .1))
+  maps-are = rw (answered .0, lt-ltb Map (2 ^ 31) (map-is .0), ne-eqb Map 0 (map-is .1))
 
   read-same : readRoute s at ≡ read r next
   unfolding readRoute readPoints
@@ -87,15 +87,15 @@ module _ (s : List ℕ) (at : ℕ) (r : Route) (next : ℕ) (e : olderReadRoute 
       let ends : at + 4 + 4 * Count ≡ next = omega (arith, a .5) in
       rw (maps-are, le-leb (at + 4 + 4 * Count) (length s) fits, a .3, ends, a .4)
 
-  small : r .map < 2147483648
-  small = subst (λ (x : Route). x .map < 2147483648) (answered .4) (map-is .0)
+  small : r .map < 2 ^ 31
+  small = subst (λ (x : Route). x .map < 2 ^ 31) (answered .4) (map-is .0)
 
   pub kept : StoredKept s at r next
   kept = record { same = read-same; alone = small; written = same-record r small; bytes = λ (h : AreBytes s). route-kept .bytes s at r next h read-same }
 
 -- ---- long routes
 
-module _ (s : List ℕ) (at : ℕ) (r : Route) (rest : List ℕ) (h : 2147483648 ≤ r .map) (e : drop at s ≡ routeRecord r ++ rest) where
+module _ (s : List ℕ) (at : ℕ) (r : Route) (rest : List ℕ) (h : 2 ^ 31 ≤ r .map) (e : drop at s ≡ routeRecord r ++ rest) where
   abbrev Tail : List ℕ
   Tail = numberBytes (r .numbers) ++ rest
 
@@ -107,12 +107,12 @@ module _ (s : List ℕ) (at : ℕ) (r : Route) (rest : List ℕ) (h : 2147483648
   refuses =
       let fits : at + 4 ≤ length s = omega (arith, room s at (r .map) Tail starts, two-maps-long (r .map) h) in
       let first = first-is s at (r .map) Tail starts h in
-      rw (le-leb (at + 4) (length s) fits, first, le-ltb (2147483648 + r .map % 2147483648) 2147483648 (omega arith))
+      rw (le-leb (at + 4) (length s) fits, first, le-ltb (2 ^ 31 + r .map % 2 ^ 31) (2 ^ 31) (omega arith))
 
 no-place : {A : Type 0} (k next : ℕ) → written.Refused k ≡ written.Next next → A
 no-place k next e = let z : _≡_ {A = ℕ} 0 1 = cc in absurd (omega arith)
 
-module _ (out : List ℕ) (at m : ℕ) (numbers : List Float) (next : ℕ) (h : 2147483648 ≤ m) where
+module _ (out : List ℕ) (at m : ℕ) (numbers : List Float) (next : ℕ) (h : 2 ^ 31 ≤ m) where
   abbrev Written : Route
   Written = routeOf m numbers
 

@@ -64,9 +64,9 @@ count-le : (m : ℕ) → mapRefusal m ≡ 0 → numberCount m ≤ 248
 unfolding numberCount
 count-le m e = omega (arith, ones-below 62 2 m (map-is m e .0), ones-le 62 m)
 
-not-refused : (m : ℕ) → m < 4611686018427387904 → (m ≡ 0 → ⊥) → mapRefusal m ≡ 0
+not-refused : (m : ℕ) → m < 2 ^ 62 → (m ≡ 0 → ⊥) → mapRefusal m ≡ 0
 unfolding mapRefusal
-not-refused m h z = rw (lt-ltb m 4611686018427387904 h, ne-eqb m 0 z)
+not-refused m h z = rw (lt-ltb m (2 ^ 62) h, ne-eqb m 0 z)
 
 -- ---- where a record stands
 
@@ -80,21 +80,21 @@ numbers-back (x ∷ xs) rest h =
     (ap (λ (l : List Float). x ∷ l) (numbers-back xs rest (h .1)))
 
 module _ (s : List ℕ) (at m : ℕ) (rest : List ℕ) (e : drop at s ≡ mapsBytes m ++ rest) (ok : mapRefusal m ≡ 0) where
-  one-stands : m < 2147483648 → readMaps s at ≡ loaded.Read m (at + 4)
+  one-stands : m < 2 ^ 31 → readMaps s at ≡ loaded.Read m (at + 4)
   unfolding readMaps oneMap
   one-stands h =
       rw (
         le-leb (at + 4) (length s) (omega (arith, room s at m rest e, one-map-long m h)),
         alone-is s at m rest e h,
-        lt-ltb m 2147483648 h,
+        lt-ltb m (2 ^ 31) h,
         ne-eqb m 0 (map-is m ok .1),
       )
 
-  two-stand : 2147483648 ≤ m → readMaps s at ≡ loaded.Read m (at + 8)
+  two-stand : 2 ^ 31 ≤ m → readMaps s at ≡ loaded.Read m (at + 8)
   unfolding readMaps twoMaps
   two-stand h =
-      let a = 2147483648 + m % 2147483648 in
-      let b = m / 2147483648 in
+      let a = 2 ^ 31 + m % 2 ^ 31 in
+      let b = m / 2 ^ 31 in
       let low = map-is m ok .0 in
       let fits : at + 8 ≤ length s = omega (arith, room s at m rest e, two-maps-long m h) in
       let some : b ≡ 0 → ⊥ = λ (z : b ≡ 0). omega arith in
@@ -102,17 +102,17 @@ module _ (s : List ℕ) (at m : ℕ) (rest : List ℕ) (e : drop at s ≡ mapsBy
       rw (
         le-leb (at + 4) (length s) (omega arith),
         first-is s at m rest e h,
-        le-ltb a 2147483648 (omega arith),
+        le-ltb a (2 ^ 31) (omega arith),
         le-leb (at + 8) (length s) fits,
         second-is s at m rest e h low,
-        lt-ltb b 2147483648 (omega (arith, low)),
+        lt-ltb b (2 ^ 31) (omega (arith, low)),
         ne-eqb b 0 some,
         back,
       )
 
   pub maps-stand : readMaps s at ≡ loaded.Read m (at + length (mapsBytes m))
   maps-stand =
-      either m (λ (h : m < 2147483648). one-stands h ∙ rw (one-map-long m h)) (λ (h : 2147483648 ≤ m). two-stand h ∙ rw (two-maps-long m h))
+      either m (λ (h : m < 2 ^ 31). one-stands h ∙ rw (one-map-long m h)) (λ (h : 2 ^ 31 ≤ m). two-stand h ∙ rw (two-maps-long m h))
 
 pub record-is : (r : Route) → routeRecord r ≡ mapsBytes (r .map) ++ numberBytes (r .numbers)
 unfolding routeRecord
@@ -174,7 +174,7 @@ numbers-same zero s h l f = refl
 numbers-same (suc n) s h l f =
     let b = numberAt 4 s in
     let fs = both (finite (ofBits binary32 b)) (allFinite (numbersAt n (drop 4 s))) f in
-    let below : b < 2 * 2147483648 = number-below 4 s h in
+    let below : b < 2 * 2 ^ 31 = number-below 4 s h in
     let bits : toBits binary32 (ofBits binary32 b) ≡ b = toBits-ofBits binary32 b below (not-false (finite-number (ofBits binary32 b) (fs .0))) in
     let rest : numberBytes (numbersAt n (drop 4 s)) ≡ take (4 * n) (drop 4 s) =
     numbers-same n (drop 4 s) (bytes-dropped 4 s h) (simp length-drop (omega arith)) (fs .1) in
@@ -207,35 +207,35 @@ module _ (s : List ℕ) (at m from : ℕ) where
   abbrev Second : ℕ
   Second = numberAt 4 (drop (at + 4) s)
 
-  one-read : at + 4 ≤ length s → First < 2147483648 → (First ≡ 0 → ⊥) → First ≡ m → at + 4 ≡ from → MapsRead s at m from
+  one-read : at + 4 ≤ length s → First < 2 ^ 31 → (First ≡ 0 → ⊥) → First ≡ m → at + 4 ≡ from → MapsRead s at m from
   one-read l low some em ep =
-      let small : m < 2147483648 = omega arith in
+      let small : m < 2 ^ 31 = omega arith in
       record {
         ok = not-refused m (omega arith) (λ (z : m ≡ 0). some (em ∙ z));
         place = omega (arith, one-map-long m small);
         bytes = λ (h : AreBytes s). rw (one-map-long m small, one-map-bytes m small, ← em) (bytes-back 4 (drop at s) (bytes-dropped at s h) (simp length-drop (omega arith)));
       }
 
-  two-read : at + 8 ≤ length s → 2147483648 ≤ First → Second < 2147483648 → (Second ≡ 0 → ⊥) → joined First Second ≡ m
+  two-read : at + 8 ≤ length s → 2 ^ 31 ≤ First → Second < 2 ^ 31 → (Second ≡ 0 → ⊥) → joined First Second ≡ m
       → at + 8 ≡ from → MapsRead s at m from
   two-read l high low some em ep =
-      let large : 2147483648 ≤ m = omega arith in
+      let large : 2 ^ 31 ≤ m = omega arith in
       record {
         ok = not-refused m (omega arith) (λ (z : m ≡ 0). omega arith);
         place = omega (arith, two-maps-long m large);
         bytes = λ (h : AreBytes s).
             let t = drop at s in
             let bs = bytes-dropped at s h in
-            let below : First < 4294967296 = number-below 4 t bs in
-            let a : 2147483648 + m % 2147483648 ≡ First = omega arith in
-            let b : m / 2147483648 ≡ Second = omega arith in
+            let below : First < 2 ^ 32 = number-below 4 t bs in
+            let a : 2 ^ 31 + m % 2 ^ 31 ≡ First = omega arith in
+            let b : m / 2 ^ 31 ≡ Second = omega arith in
             let front : bytesOf 4 First ≡ take 4 t = bytes-back 4 t bs (simp length-drop (omega arith)) in
             let back : bytesOf 4 Second ≡ take 4 (drop 4 t) =
             rw (← drop-drop 4 at s) (bytes-back 4 (drop 4 t) (bytes-dropped 4 t bs) (simp length-drop (omega arith))) in
             rw (two-maps-long m large, two-map-bytes m large, a, b, front, back, ← take-add 4 4 t);
       }
 
-  one-found : at + 4 ≤ length s → First < 2147483648 → (z : Bool) → eqb First 0 ≡ z
+  one-found : at + 4 ≤ length s → First < 2 ^ 31 → (z : Bool) → eqb First 0 ≡ z
       → cond z (loaded.Refused 10) (loaded.Read First (at + 4)) ≡ loaded.Read m from → MapsRead s at m from
   one-found l low true q w = no-maps 10 m from w
   one-found l low false q w =
@@ -243,30 +243,30 @@ module _ (s : List ℕ) (at m from : ℕ) where
       let place : at + 4 ≡ from = cc in
       one-read l low (eqb-false First 0 q) map place
 
-  two-found : 2147483648 ≤ First → (c d y : Bool) → hasBytes s at 8 ≡ c → ltb Second 2147483648 ≡ d → eqb Second 0 ≡ y
+  two-found : 2 ^ 31 ≤ First → (c d y : Bool) → hasBytes s at 8 ≡ c → ltb Second (2 ^ 31) ≡ d → eqb Second 0 ≡ y
       → cond (not c) (loaded.Refused 5) (cond (not d) (loaded.Refused 6) (cond y (loaded.Refused 6) (loaded.Read (joined First Second) (at + 8)))) ≡ loaded.Read m from
       → MapsRead s at m from
   two-found high true true true p q r w = no-maps 6 m from w
   two-found high true true false p q r w =
       let map : joined First Second ≡ m = cc in
       let place : at + 8 ≡ from = cc in
-      two-read (leb-true _ _ p) high (ltb-true Second 2147483648 q) (eqb-false Second 0 r) map place
+      two-read (leb-true _ _ p) high (ltb-true Second (2 ^ 31) q) (eqb-false Second 0 r) map place
   two-found high true false y p q r w = no-maps 6 m from w
   two-found high false d y p q r w = no-maps 5 m from w
 
   maps-read : readMaps s at ≡ loaded.Read m from → MapsRead s at m from
   unfolding readMaps oneMap twoMaps
-  maps-read e = go (hasBytes s at 4) refl (ltb First 2147483648) refl e
+  maps-read e = go (hasBytes s at 4) refl (ltb First (2 ^ 31)) refl e
     where
-      go : (a : Bool) → hasBytes s at 4 ≡ a → (b : Bool) → ltb First 2147483648 ≡ b
+      go : (a : Bool) → hasBytes s at 4 ≡ a → (b : Bool) → ltb First (2 ^ 31) ≡ b
           → cond (not a) (loaded.Refused 5)
           (cond b (cond (eqb First 0) (loaded.Refused 10) (loaded.Read First (at + 4)))
           (cond (not (hasBytes s at 8)) (loaded.Refused 5)
-          (cond (not (ltb Second 2147483648)) (loaded.Refused 6)
+          (cond (not (ltb Second (2 ^ 31))) (loaded.Refused 6)
           (cond (eqb Second 0) (loaded.Refused 6) (loaded.Read (joined First Second) (at + 8)))))) ≡ loaded.Read m from
           → MapsRead s at m from
-      go true p true q w = one-found (leb-true _ _ p) (ltb-true First 2147483648 q) (eqb First 0) refl w
-      go true p false q w = two-found (ltb-false First 2147483648 q) (hasBytes s at 8) (ltb Second 2147483648) (eqb Second 0) refl refl refl w
+      go true p true q w = one-found (leb-true _ _ p) (ltb-true First (2 ^ 31) q) (eqb First 0) refl w
+      go true p false q w = two-found (ltb-false First (2 ^ 31) q) (hasBytes s at 8) (ltb Second (2 ^ 31)) (eqb Second 0) refl refl refl w
       go false p b q w = no-maps 5 m from w
 
 -- a route that was read: its maps, and its numbers from the place after them
@@ -341,7 +341,7 @@ route-laws = laws IsRoute routeRecord readRoute read stands-at held no-longer on
 
 -- sixty-two points of zeros
 abbrev Longest : Route
-Longest = record { map = 4611686018427387903; numbers = replicate 248 n0 }
+Longest = record { map = 2 ^ 62 - 1; numbers = replicate 248 n0 }
 
 all-held : (n : ℕ) → AreF32 (replicate n n0)
 unfolding AreF32
@@ -361,8 +361,8 @@ longest-is = record { map = refl; long = length-replicate 248 n0; held = all-hel
 size-le : (r : Route) → mapRefusal (r .map) ≡ 0 → length (mapsBytes (r .map)) + 4 * numberCount (r .map) ≤ 1000
 size-le r ok =
     either (r .map)
-    (λ (h : r .map < 2147483648). omega (arith, one-map-long (r .map) h, count-le (r .map) ok))
-    (λ (h : 2147483648 ≤ r .map). omega (arith, two-maps-long (r .map) h, count-le (r .map) ok))
+    (λ (h : r .map < 2 ^ 31). omega (arith, one-map-long (r .map) h, count-le (r .map) ok))
+    (λ (h : 2 ^ 31 ≤ r .map). omega (arith, two-maps-long (r .map) h, count-le (r .map) ok))
 
 stepped : (s : List ℕ) (at : ℕ) (r : Route) (next : ℕ) → readRoute s at ≡ read r next → next ≤ at + 1000
 stepped s at r next e = let w = whole s at r next e in omega (arith, w .maps .place, w .ends, size-le r (w .maps .ok))
@@ -374,6 +374,6 @@ route-kept =
       counts = maps-count;
       longest = λ r f. omega (arith, record-size r, f .long, size-le r (f .map));
       stepped = stepped;
-      reached = (Longest, longest-is, omega (arith, record-size Longest, length-replicate 248 n0, two-maps-long 4611686018427387903 (omega arith)));
+      reached = (Longest, longest-is, omega (arith, record-size Longest, length-replicate 248 n0, two-maps-long (2 ^ 62 - 1) (omega arith)));
       bytes = λ s at r next h e. same-bytes s at r next e h;
     }

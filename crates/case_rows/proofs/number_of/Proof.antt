@@ -16,10 +16,10 @@ unfolding div ofBits
 zero-by-zero = refl
 
 -- a pattern above the infinity's, the sign bit off, is a NaN's
-is-nan : (n : ℕ) → ltb 2139095040 (n % 2147483648) ≡ true → ofBits binary32 n ≡ nan
+is-nan : (n : ℕ) → ltb 0x7f800000 (n % 0x80000000) ≡ true → ofBits binary32 n ≡ nan
 is-nan n h = nan-is (ofBits binary32 n) (sym (nanBits-is binary32 n) ∙ nanBits-above binary32 n ∙ h)
 
-is-number : (n : ℕ) → ltb 2139095040 (n % 2147483648) ≡ false → T (not (nanBits binary32 n))
+is-number : (n : ℕ) → ltb 0x7f800000 (n % 0x80000000) ≡ false → T (not (nanBits binary32 n))
 is-number n h = subst (λ (b : Bool). T (not b)) (sym (nanBits-above binary32 n ∙ h)) tt
 
 returns : tie.Need-returns

@@ -7,7 +7,7 @@ use native.Mathlib.Omega.{arith}
 use Rattle.arithmetic.proofs.root.mul17.Statement.{statement}
 use Rattle.arithmetic.proofs.root.mul17.Tie as tie
 
-product : (a b : ℕ) → a < 0x100000000 → b < 0x100000000 → a * b ≤ 18446744065119617025
+product : (a b : ℕ) → a < 0x100000000 → b < 0x100000000 → a * b ≤ 0xffffffff * 0xffffffff
 product a b h k = let l : a ≤ 0xffffffff = omega arith in let m : b ≤ 0xffffffff = omega arith in mul-le-mul l m
 
 mul-result : tie.Need-mul-result
