@@ -179,24 +179,9 @@ fn of_parts(c: u64) -> f32
     f32::from_bits(((c + 0x80_0000) / 0x100_0000 * 0x80_0000 + v - (v * v >= m + v) as u64) as u32)
 }
 
-// The root where x is not a normal number above zero; b is its pattern. The zeros and the infinity are their own roots, subnormals are
-// moved up to 24 digits first, and what lies below zero has no root.
-fn root_apart(x: f32, b: u32) -> f32
-    requires { ⌜ (b ≡ toBits binary32 x) × (0x80_0000 ≤ b → 0x7f80_0000 ≤ b) ⌝ }
-    ensures { λ r. ⌜ IsRoot x r ⌝ }
-{
-    if (b == 0) | (b == 0x7f80_0000) | (b == 0x8000_0000) {
-        return x;
-    }
-    if b < 0x80_0000 {
-        let z: u32 = u32::leading_zeros(b) - 8;
-        of_parts(((b << z) % 0x80_0000 + (125 - z) * 0x80_0000) as u64)
-    } else {
-        0.0 / 0.0
-    }
-}
-
-// Root. NaN is its own; a normal number above zero is told by one test. 0x3e00_0000 is 124 * 2^23, 0x7f80_0000 the infinity's pattern.
+// Root. A normal number above zero is told by one test. NaN, the infinity and the zeros are their own roots, what else lies below zero
+// has none, and subnormals are moved up to 24 digits. One place calls `of_parts`, so that a root is one call and, taken twice of one
+// number, is worked out once. 0x3e00_0000 is 124 * 2^23, 0x7f80_0000 the infinity's pattern, 0x8000_0000 that of -0.
 pub fn root(x: f32) -> f32
     ensures { λ r. ⌜ IsRoot x r ⌝ }
 {
@@ -204,8 +189,18 @@ pub fn root(x: f32) -> f32
         return x;
     }
     let b: u32 = f32::to_bits(x);
+    let mut c: u32 = b;
     if (0x80_0000 <= b) & (b < 0x7f80_0000) {
-        return of_parts((b + 0x3e00_0000) as u64);
+        c = b + 0x3e00_0000;
+    } else {
+        if (b == 0) | (b == 0x7f80_0000) | (b == 0x8000_0000) {
+            return x;
+        }
+        if 0x7f80_0000 < b {
+            return 0.0 / 0.0;
+        }
+        let z: u32 = u32::leading_zeros(b) - 8;
+        c = (b << z) % 0x80_0000 + (125 - z) * 0x80_0000;
     }
-    root_apart(x, b)
+    of_parts(c as u64)
 }
