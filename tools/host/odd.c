@@ -2,27 +2,13 @@
  * bytes, the answer is a function of guidance, number and bytes, what is put back is a guidance, and the words of the
  * answer are those that the header lists.
  *     odd SEED CALLS */
+#define PROGRAM "odd"
 #include "nuthkolla.h"
+#include "odd.h"
 
 #include <stdio.h>
 #include <stdlib.h>
 #include <string.h>
-
-static uint64_t seed;
-
-static uint32_t any(void)
-{
-    seed = seed * 6364136223846793005u + 1442695040888963407u;
-    return (uint32_t)(seed >> 32);
-}
-
-static void expect(int holds, const char *what)
-{
-    if (!holds) {
-        printf("odd: %s\n", what);
-        exit(1);
-    }
-}
 
 /* Words that are numbers of any kind: any bits, small whole numbers, flags. */
 static void fill_words(void *to, size_t words)

@@ -1,28 +1,14 @@
 /* Routes of arbitrary maps, numbers and records on guidances of arbitrary bytes: each refusal is the one that the header lists for what
  * the host holds, a refusal keeps guidance, number, lent numbers and bytes, and what is written is read again.
  *     odd_routes SEED CALLS */
+#define PROGRAM "odd_routes"
 #include "nuthkolla.h"
+#include "odd.h"
 
 #include <math.h>
 #include <stdio.h>
 #include <stdlib.h>
 #include <string.h>
-
-static uint64_t seed;
-
-static uint32_t any(void)
-{
-    seed = seed * 6364136223846793005u + 1442695040888963407u;
-    return (uint32_t)(seed >> 32);
-}
-
-static void expect(int holds, const char *what)
-{
-    if (!holds) {
-        printf("odd_routes: %s\n", what);
-        exit(1);
-    }
-}
 
 static void fill(void *to, size_t words)
 {

@@ -1,5 +1,7 @@
 // Least, greatest, clamp, the size and the finite test, and a choice by a Bool.
 ghost use mathlib.Core.Path.{_≡_};
+ghost use mathlib.Core.Bool.{false};
+ghost use lib.Ieee as Ieee;
 ghost use lib.Ieee.{isNan};
 ghost use Rattle.arithmetic.specs.Order as spec;
 
@@ -29,6 +31,15 @@ pub fn clamp(v: f32, low: f32, high: f32) -> f32
         return low;
     }
     if v > high { high } else { v }
+}
+
+// Clamp where the bounds are not crossed: the lesser of two, then the greater of two.
+pub fn clamp_ordered(v: f32, low: f32, high: f32) -> f32
+    requires { ⌜ Ieee.lt high low ≡ false ⌝ }
+    ensures { λ r. ⌜ r ≡ spec.clamp v low high ⌝ }
+{
+    let below = if v > high { high } else { v };
+    if below < low { low } else { below }
 }
 
 pub fn is_finite(x: f32) -> bool

@@ -20,12 +20,17 @@ pub const FRAC_PI_2: f32 = 1.5707964;
 
 pub const TAU: f32 = 6.2831855;
 
-// Sine, z = a·a: a·(1 - z/6·(1 - z/20·(1 - z/42·(1 - z/72·(1 - z/110))))).
+// Sine, z = a·a: a·(1 - z/6·(1 - z/20·(1 - z/42·(1 - z/72·(1 - z/110))))). The innermost quotient stands first, since all others
+// wait for it and divisions are done one after the other.
 pub fn sine(a: f32) -> f32
     ensures { λ r. ⌜ r ≡ spec.sine a ⌝ }
 {
     let z = a * a;
-    a * (1.0 - z / 6.0 * (1.0 - z / 20.0 * (1.0 - z / 42.0 * (1.0 - z / 72.0 * (1.0 - z / 110.0)))))
+    let s110 = 1.0 - z / 110.0;
+    let s72 = 1.0 - z / 72.0 * s110;
+    let s42 = 1.0 - z / 42.0 * s72;
+    let s20 = 1.0 - z / 20.0 * s42;
+    a * (1.0 - z / 6.0 * s20)
 }
 
 // The remainder by TAU of the number with these bits, which is at least 4 (0x4080_0000) and finite. In units of 2^-21 (1 is
@@ -70,7 +75,10 @@ fn cosine_of_folded(t: f32) -> f32
 {
     let z = t * t;
     if t <= FRAC_PI_4 {
-        1.0 - z / 2.0 * (1.0 - z / 12.0 * (1.0 - z / 30.0 * (1.0 - z / 56.0)))
+        let s56 = 1.0 - z / 56.0;
+        let s30 = 1.0 - z / 30.0 * s56;
+        let s12 = 1.0 - z / 12.0 * s30;
+        1.0 - z / 2.0 * s12
     } else {
         sine(FRAC_PI_2 - t)
     }

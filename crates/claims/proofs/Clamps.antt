@@ -17,14 +17,13 @@ use Rattle.arithmetic.proofs.Bounds.{
   finite-number,
   greatest-right,
   zero-between,
-  le-self,
-  zero-number,
 }
 use Rattle.arithmetic.proofs.Sums.{sub-mono, neg-finite}
 use Rattle.laws.specs.Config.{validate}
 use Rattle.laws.specs.Math.{limitOrZero}
 use Rattle.laws.specs.Types.{gravity}
 use Rattle.laws.specs.Tecs.{half, minGainAirspeed, thrustIntegralMargin, maxEnergyRate, allInputsFinite}
+use Rattle.laws.proofs.Ordered.{limit-number}
 use Rattle.laws.proofs.Validated.{valid-field}
 use Rattle.laws.specs.declared.config.TecsConfig.{TecsConfig}
 use Rattle.laws.specs.declared.config.PlaneGuidanceConfig.{PlaneGuidanceConfig}
@@ -79,14 +78,6 @@ margin-positive = is-positive thrustIntegralMargin (above-zero .3) (all-finite .
 one-finite : finite n1 ≡ true
 unfolding Ieee.ofBits finite
 one-finite = refl
-
-limit-number : (limit : Float) → le n0 (limitOrZero limit) ≡ true
-unfolding limitOrZero
-limit-number limit = go (le n0 limit) refl
-  where
-    go : (b : Bool) → le n0 limit ≡ b → le n0 (cond b limit n0) ≡ true
-    go true e = e
-    go false e = le-self n0 zero-number
 
 unit-ordered : (le n0 n1 ≡ true) × (le (neg n1) n1 ≡ true) × (le (neg fracPi4) fracPi4 ≡ true)
 unfolding Ieee.ofBits le neg

@@ -14,6 +14,7 @@ use crate::plane::TakenBack;
 use crate::waypoint::refusal;
 use crate::waypoint::regime_number;
 use crate::waypoint::waypoint;
+use crate::waypoint::waypoint_roll_first;
 use arithmetic::order::is_finite;
 use laws::config::PlaneGuidanceConfig;
 use laws::config::default;
@@ -25,7 +26,9 @@ use laws::types::FlightRegime;
 use laws::types::OptionF32;
 use laws::types::Setpoint;
 use laws::types::VehicleState;
+use laws::types::WaypointCommand;
 ghost use mathlib.Core.Path.{_≡_};
+ghost use Rattle.laws.specs.declared.types.ControlInput.the-variants.{Waypoint};
 ghost use Rattle.laws.specs.declared.types.OptionF32.the-variants.{None};
 ghost use Rattle.guidance.specs.Plane as spec;
 ghost use Rattle.guidance.specs.Contracts as contract;
@@ -115,6 +118,24 @@ impl PlaneGuidance {
     {
         if (dt > 0.0) & is_finite(dt) {
             obeyed(self, dt, regime, input, state, pitch_cap_rad)
+        } else {
+            refusal(self, 2)
+        }
+    }
+
+    // A waypoint's `guide_capped` for steps that follow each other, as a drawn path's do.
+    pub fn guide_step(
+        self,
+        dt: f32,
+        regime: FlightRegime,
+        w: WaypointCommand,
+        state: VehicleState,
+        pitch_cap_rad: OptionF32,
+    ) -> Guided
+        ensures { λ r. ⌜ contract.Guides self dt regime (Waypoint w) state «pitch_cap_rad» r ⌝ }
+    {
+        if (dt > 0.0) & is_finite(dt) {
+            waypoint_roll_first(self, dt, regime, w, state, pitch_cap_rad)
         } else {
             refusal(self, 2)
         }

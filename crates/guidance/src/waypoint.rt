@@ -358,3 +358,27 @@ pub fn waypoint(
     let lateral = steered(config, w, state);
     settled(g, regime, lateral, law, v)
 }
+
+// The same with the lateral law first, for steps that follow each other: there the next position and velocity, and so the next step,
+// wait for the roll.
+pub fn waypoint_roll_first(
+    g: PlaneGuidance,
+    dt: f32,
+    regime: FlightRegime,
+    w: WaypointCommand,
+    state: VehicleState,
+    cap: OptionF32,
+) -> Guided
+    ensures { λ r. ⌜ r ≡ spec.waypoint g dt regime w state cap ⌝ }
+{
+    if bad_cap(cap) {
+        return refusal(g, 3);
+    }
+    let config = g.config;
+    let altitude = g.altitude;
+    let tecs = g.tecs;
+    let lateral = steered(config, w, state);
+    let law = vertical_law(dt, w, state);
+    let v = vertical_of(law, config, altitude, tecs, dt, w, state, cap);
+    settled(g, regime, lateral, law, v)
+}

@@ -2,6 +2,7 @@
 pub mod Bank
 pub mod Idle
 pub mod OffLine
+pub mod Ordered
 pub mod Plus
 pub mod Starred
 pub mod Steering

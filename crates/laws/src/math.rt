@@ -1,5 +1,6 @@
 // Numeric helpers shared by the laws: saturate, lag, clamp.
 use arithmetic::order::clamp;
+use arithmetic::order::clamp_ordered;
 use arithmetic::order::is_finite;
 use arithmetic::order::is_nan;
 use arithmetic::order::least;
@@ -17,7 +18,7 @@ pub fn clamp_symmetric(value: f32, limit: f32) -> f32
     ensures { λ r. ⌜ r ≡ spec.clampSymmetric value limit ⌝ }
 {
     let l = limit_or_zero(limit);
-    clamp(value, -l, l)
+    clamp_ordered(value, -l, l)
 }
 
 pub fn saturate_symmetric(value: f32, limit: f32) -> f32

@@ -4,7 +4,7 @@ use crate::math::clamp_symmetric;
 use crate::types::GRAVITY;
 use crate::types::OptionVec2;
 use arithmetic::order::choose;
-use arithmetic::order::clamp;
+use arithmetic::order::clamp_ordered;
 use arithmetic::order::greatest;
 use arithmetic::order::is_finite;
 use arithmetic::order::is_nan;
@@ -104,7 +104,7 @@ fn capture(cross_track_m: f32, distance_m: f32) -> f32
     if ratio > 1.0 {
         return MAX_CAPTURE_RAD;
     }
-    clamp(arcsine(ratio), -MAX_CAPTURE_RAD, MAX_CAPTURE_RAD)
+    clamp_ordered(arcsine(ratio), -MAX_CAPTURE_RAD, MAX_CAPTURE_RAD)
 }
 
 // Straight back is a tie, which turns right whatever the sign of the zero.
@@ -393,7 +393,7 @@ fn pi_finite(
     let grown = clamp_symmetric(pi.integral + error * dt, max_integral);
     let integral = choose(pinned, pi.integral, grown);
     PiResult {
-        output: clamp(p * error + i * integral, low, top),
+        output: clamp_ordered(p * error + i * integral, low, top),
         pi: PiLoop { integral },
     }
 }

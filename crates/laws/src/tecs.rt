@@ -5,6 +5,7 @@ use crate::math::lagged;
 use crate::types::GRAVITY;
 use arithmetic::order::choose;
 use arithmetic::order::clamp;
+use arithmetic::order::clamp_ordered;
 use arithmetic::order::greatest;
 use arithmetic::order::is_finite;
 use arithmetic::order::least;
@@ -160,7 +161,7 @@ fn clamp_airspeed(config: TecsConfig, airspeed_mps: f32) -> f32
     ensures { λ r. ⌜ r ≡ spec.clampAirspeed config «airspeed_mps» ⌝ }
 {
     let min_mps = config.min_airspeed_mps;
-    clamp(
+    clamp_ordered(
         airspeed_mps,
         min_mps,
         greatest(config.max_airspeed_mps, min_mps),

@@ -1,5 +1,5 @@
 // One step of the drawn path: the guidance's answer, and a simple plane that banks and pitches at once as it says.
-use arithmetic::order::clamp;
+use arithmetic::order::clamp_ordered;
 use arithmetic::order::is_finite;
 use arithmetic::trigonometry::FRAC_PI_2;
 use arithmetic::trigonometry::cosine;
@@ -8,7 +8,6 @@ use arithmetic::vector::Vec2;
 use arithmetic::vector::norm;
 use guidance::plane::Answer;
 use guidance::plane::PlaneGuidance;
-use laws::types::ControlInput;
 use laws::types::FlightRegime;
 use laws::types::GRAVITY;
 use laws::types::OptionF32;
@@ -19,7 +18,7 @@ use laws::types::WaypointCommand;
 ghost use mathlib.Core.Path.{_≡_};
 ghost use Rattle.path.specs.Model as spec;
 
-// A waypoint call: what `guide_capped` takes besides the guidance.
+// A waypoint call: what `guide_step` takes besides the guidance.
 pub struct WaypointCall {
     pub dt: f32,
     pub regime: FlightRegime,
@@ -57,7 +56,7 @@ fn turn_in_step(roll_rad: f32, speed_mps: f32, dt: f32) -> f32
     ensures { λ r. ⌜ r ≡ spec.turnInStep «roll_rad» «speed_mps» dt ⌝ }
 {
     let rate = turn_rate(roll_rad, speed_mps);
-    clamp(rate * dt, -FRAC_PI_2, FRAC_PI_2)
+    clamp_ordered(rate * dt, -FRAC_PI_2, FRAC_PI_2)
 }
 
 fn turned_right(velocity_mps: Vec3, turn_rad: f32) -> Vec2
@@ -187,7 +186,7 @@ pub fn step(m: Model, call: WaypointCall) -> Stepped
     let command = call.command;
     let regime = call.regime;
     let cap = call.cap;
-    let o = g.guide_capped(call.dt, regime, ControlInput::Waypoint(command), state, cap);
+    let o = g.guide_step(call.dt, regime, command, state, cap);
     let guidance = o.guidance;
     let answer = o.answer;
     by_answer(m, call.dt, guidance, answer)

@@ -104,7 +104,7 @@ fn case(name: &[u8], recording: &[u8], lines: &[u8]) {
     }
 }
 
-fn configurations() {
+fn cut_configurations() {
     case(b"empty", b"empty.recording", b"empty.lines");
     case(b"one_byte", b"one_byte.recording", b"one_byte.lines");
     case(b"map_cut", b"map_cut.recording", b"map_cut.lines");
@@ -114,6 +114,9 @@ fn configurations() {
         b"config_alone.lines",
     );
     case(b"config_cut", b"config_cut.recording", b"config_cut.lines");
+}
+
+fn bad_configurations() {
     case(
         b"config_unnamed",
         b"config_unnamed.recording",
@@ -139,6 +142,9 @@ fn configurations() {
         b"config_refused_33.recording",
         b"config_refused_33.lines",
     );
+}
+
+fn crossed_configurations() {
     case(
         b"config_refused_34",
         b"config_refused_34.recording",
@@ -179,11 +185,14 @@ fn calls() {
     case(b"cut", b"cut.recording", b"cut.lines");
 }
 
-fn bad_records() {
+fn bad_kinds() {
     case(b"kind_7", b"kind_7.recording", b"kind_7.lines");
     case(b"kind_9_cut", b"kind_9_cut.recording", b"kind_9_cut.lines");
     case(b"regime_2", b"regime_2.recording", b"regime_2.lines");
     case(b"no_kind", b"no_kind.recording", b"no_kind.lines");
+}
+
+fn bad_maps() {
     case(b"half_leg", b"half_leg.recording", b"half_leg.lines");
     case(
         b"other_half_leg",
@@ -222,9 +231,12 @@ fn generated() {
 }
 
 fn main() {
-    configurations();
+    cut_configurations();
+    bad_configurations();
+    crossed_configurations();
     calls();
-    bad_records();
+    bad_kinds();
+    bad_maps();
     many_calls();
     generated();
 }

@@ -12,12 +12,13 @@ use lib.IntN.{ℤ, pos, negsuc}
 use lib.Dec.{T, leb, ltb, eqb, leb→le, nleb→lt, ltb→lt, lt→ltb}
 use lib.Pow.{pow-add, pow-pos, pow-mono, pow-lt}
 use lib.Count.{leadingZeros, leading-top}
-use lib.Ieee.{Float, nan, inf, fin, binary32, up, down, fits}
+use lib.Ieee.{Float, nan, inf, fin, binary32, up, down, fits, ofBits, toBits}
+use lib.Ieee.Bits.{ofBits-toBits}
 use lib.Ieee.Fits.{and-l, and-r, down-pos}
 use lib.Ieee.Exact.{HasValue}
 use lib.Ieee.Digits.{back}
-use Rattle.arithmetic.specs.Root.{NearestWhole, floorRoot, nearestRoot, rootOf, inUnits, positive, unsigned, NearestToRoot, RootLaw, IsRoot}
-use Rattle.arithmetic.proofs.root.Squares.{Floor, floor-is, square-suc}
+use Rattle.arithmetic.specs.Root.{floorRoot, nearestRoot, rootOf, inUnits, positive, unsigned, NearestToRoot, RootLaw, IsRoot}
+use Rattle.arithmetic.proofs.root.Squares.{NearestWhole, Floor, floor-is, square-suc}
 use Rattle.arithmetic.proofs.root.Rounded.{root-after, root-before, root-least, value}
 use Rattle.arithmetic.proofs.root.Patterns.{same-value}
 use Rattle.arithmetic.proofs.root.Whole.{least, greatest, widened, half-power, regroup, root-of-value, nearest-fits}
@@ -304,3 +305,7 @@ defined (fin false (suc m) e) f = let p = finite-root m e f in record { nearest 
 
 pub is-root : (x r : Float) → T (fits binary32 x) → r ≡ rootOf binary32 x → IsRoot x r
 is-root x r f h = record { is = h; law = subst (RootLaw x) (sym h) (defined x f) }
+
+-- and of a value that is told by its pattern
+pub is-root-of : (x r : Float) (b : ℕ) → T (fits binary32 x) → b ≡ toBits binary32 x → r ≡ rootOf binary32 (ofBits binary32 b) → IsRoot x r
+is-root-of x r b f e h = is-root x r f (h ∙ ap (rootOf binary32) (ap (ofBits binary32) e ∙ ofBits-toBits binary32 x f))

@@ -47,10 +47,10 @@ concave r j a b m n p q =
     omega (arith, h, mul-le-mul-right (r * (r + j)) p, mul-le-mul-right (j * (r + j)) q)
 
 -- the dropped digits
-floors : (B S C t p w L P v : ℕ) → C < 0x2000 → w * 0x20000 ≤ p → p < w * 0x20000 + 0x20000 → L * 0x20000 ≤ S * t → S * t < L * 0x20000 + 0x20000 →
-    P * 0x20000 ≤ C * w → C * w < P * 0x20000 + 0x20000 → 16 * v ≤ B + L + P → B + L + P < 16 * v + 16 →
+floors : (B S C t p w v : ℕ) → C < 0x2000 → w * 0x20000 ≤ p → p < w * 0x20000 + 0x20000 →
+    0x200000 * v ≤ B * 0x20000 + S * t + C * w → B * 0x20000 + S * t + C * w < 0x200000 * v + 0x200000 →
     (0x4000000000 * v ≤ 0x400000000 * B + 0x20000 * (S * t) + C * p) × (0x400000000 * B + 0x20000 * (S * t) + C * p ≤ 0x4000000000 * v + 0x4800000000)
-floors B S C t p w L P v c a b d e f g h i =
+floors B S C t p w v c a b d e =
     let x : p ≤ w * 0x20000 + 0x20000 = omega arith in
     (omega (arith, mul-le-mul-right C a), omega (arith, mul-le-mul-right C x))
 
@@ -184,29 +184,28 @@ at-is e k l h = let q : 0x20 - k ≡ suc l = omega arith in rw q
 at-next : (e k l : ℕ) → k + l ≡ 31 → at e (suc k) ≡ 0x400 * base e + 0x20 * (slope e * suc k) + bump e * (suc k * l)
 at-next e k l h = let q : 0x20 - suc k ≡ l = omega arith in rw q
 
--- the whole part of a quotient
-quotient : (a : ℕ) → (a / 0x20000 * 0x20000 ≤ a) × (a < a / 0x20000 * 0x20000 + 0x20000)
-quotient a = (omega arith, omega arith)
+-- the guess at a place with t places before it and s after it, before its last 21 digits are dropped
+abbrev whole : ℕ → ℕ → ℕ → ℕ
+whole e t s = base e * 0x20000 + slope e * t + bump e * (t * s / 0x20000)
 
--- the sixteenths at a place, before their last four digits are dropped
-abbrev sixteenths : ℕ → ℕ → ℕ → ℕ
-sixteenths e t s = base e + slope e * t / 0x20000 + bump e * (t * s / 0x20000) / 0x20000
-
-kept : (e t s : ℕ) →
-    (0x4000000000 * (sixteenths e t s / 16) ≤ 0x400000000 * base e + 0x20000 * (slope e * t) + bump e * (t * s))
-    × (0x400000000 * base e + 0x20000 * (slope e * t) + bump e * (t * s) ≤ 0x4000000000 * (sixteenths e t s / 16) + 0x4800000000)
-kept e t s =
-    let w = quotient (t * s) in
-    let n = quotient (slope e * t) in
-    let m = quotient (bump e * (t * s / 0x20000)) in
-    floors (base e) (slope e) (bump e) t (t * s) (t * s / 0x20000) (slope e * t / 0x20000) (bump e * (t * s / 0x20000) / 0x20000) (sixteenths e t s / 16)
-    (omega arith) (w .0) (w .1) (n .0) (n .1) (m .0) (m .1) (div-least (sixteenths e t s)) (div-most (sixteenths e t s))
+kept : (e t s : ℕ) → bump e < 0x2000 →
+    (0x4000000000 * (whole e t s / 0x200000) ≤ 0x400000000 * base e + 0x20000 * (slope e * t) + bump e * (t * s))
+    × (0x400000000 * base e + 0x20000 * (slope e * t) + bump e * (t * s) ≤ 0x4000000000 * (whole e t s / 0x200000) + 0x4800000000)
+kept e t s h =
+    floors (base e) (slope e) (bump e) t (t * s) (t * s / 0x20000) (whole e t s / 0x200000)
+    h (way-least (t * s)) (way-most (t * s)) (least (whole e t s)) (most (whole e t s))
   where
-    div-least : (a : ℕ) → 16 * (a / 16) ≤ a
-    div-least a = omega arith
+    way-least : (a : ℕ) → a / 0x20000 * 0x20000 ≤ a
+    way-least a = omega arith
 
-    div-most : (a : ℕ) → a < 16 * (a / 16) + 16
-    div-most a = omega arith
+    way-most : (a : ℕ) → a < a / 0x20000 * 0x20000 + 0x20000
+    way-most a = omega arith
+
+    least : (a : ℕ) → 0x200000 * (a / 0x200000) ≤ a
+    least a = omega arith
+
+    most : (a : ℕ) → a < 0x200000 * (a / 0x200000) + 0x200000
+    most a = omega arith
 
 -- the guess is at least 2
 two : (j r Q Q′ v : ℕ) → j + r ≡ 0x1000 → 0x1b000 ≤ Q → 0x1b000 ≤ Q′ → r * Q + j * Q′ ≤ 0x4000000 * (2 * v + 1) → 2 ≤ v
@@ -215,16 +214,16 @@ two j r Q Q′ v e p q h = omega (arith, mul-le-mul-right r p, mul-le-mul-right 
 next : (a k : ℕ) → a + suc k * 0x1000 ≡ a + k * 0x1000 + 0x1000
 next a k = omega arith
 
-near-place : (i e k l j r : ℕ) → k + l ≡ 31 → j + r ≡ 0x1000 → Piece i e k →
-    Beside (wide i (k * 0x1000 + j)) (sixteenths e (k * 0x1000 + j) (l * 0x1000 + r) / 16)
-near-place i e k l j r K J h =
+near-place : (i e k l j r : ℕ) → bump e < 0x2000 → k + l ≡ 31 → j + r ≡ 0x1000 → Piece i e k →
+    Beside (wide i (k * 0x1000 + j)) (whole e (k * 0x1000 + j) (l * 0x1000 + r) / 0x200000)
+near-place i e k l j r E K J h =
     let t = k * 0x1000 + j in
     let s = l * 0x1000 + r in
-    let v = sixteenths e t s / 16 in
+    let v = whole e t s / 0x200000 in
     let a = 0x800000 + i % 64 * 0x20000 in
     let c = a + k * 0x1000 in
     let w = 0x800000 * (2 - i / 64) in
-    let f = kept e t s in
+    let f = kept e t s E in
     let F = 0x400000000 * base e + 0x20000 * (slope e * t) + bump e * (t * s) in
     let line : F ≡ 0x1000 * (r * at e k + j * at e (suc k)) + bump e * (j * r) =
     rw (at-is e k l K, at-next e k l K) (parabola (base e) (slope e) (bump e) k l j r J) in
@@ -257,13 +256,13 @@ near-place i e k l j r K J h =
     high-is x = omega arith
 
 -- ---- a whole stretch
-pub near : (i e t : ℕ) → t < 0x20000 → T (pieces i e 32) → Beside (wide i t) (guessed e t)
-near i e t l h =
+pub near : (i e t : ℕ) → bump e < 0x2000 → t < 0x20000 → T (pieces i e 32) → Beside (wide i t) (guessed e t)
+near i e t E l h =
     let k = t / 0x1000 in
     let j = t % 0x1000 in
     let d : k * 0x1000 + j ≡ t = omega arith in
     let b : (31 - k) * 0x1000 + (0x1000 - j) ≡ 0x20000 - t = omega arith in
     let K : k < 32 = omega arith in
-    let p = near-place i e k (31 - k) j (0x1000 - j) (omega arith) (omega arith) (piece-is i e k (one-of i e 32 k K h)) in
-    subst (λ (s : ℕ). Beside (wide i t) (sixteenths e t s / 16)) b
-    (subst (λ (x : ℕ). Beside (wide i x) (sixteenths e x ((31 - k) * 0x1000 + (0x1000 - j)) / 16)) d p)
+    let p = near-place i e k (31 - k) j (0x1000 - j) E (omega arith) (omega arith) (piece-is i e k (one-of i e 32 k K h)) in
+    subst (λ (s : ℕ). Beside (wide i t) (whole e t s / 0x200000)) b
+    (subst (λ (x : ℕ). Beside (wide i x) (whole e x ((31 - k) * 0x1000 + (0x1000 - j)) / 0x200000)) d p)

@@ -15,8 +15,8 @@ use lib.Ieee.Digits.{size-lt, size-le}
 use lib.Ieee.Exact.{HasValue}
 use lib.Ieee.Nearest.{closest, closest-same}
 use lib.Ieee.Scale.{grid, round-val}
-use Rattle.arithmetic.specs.Root.{NearestWhole, nearestRoot}
-use Rattle.arithmetic.proofs.root.Squares.{square-suc, square-twice, sticky, sticky-above, sticky-below, sticky-ge}
+use Rattle.arithmetic.specs.Root.{nearestRoot}
+use Rattle.arithmetic.proofs.root.Squares.{NearestWhole, square-suc, square-twice, sticky, sticky-above, sticky-below, sticky-ge}
 
 -- ---- what `compare` says
 abbrev Cmp : Ordering → ℕ → ℕ → Type 0

@@ -11,6 +11,11 @@ use lib.Ieee.{size}
 use lib.Ieee.Digits.{size-lt}
 use Rattle.arithmetic.specs.Root.{floorRootBy, floorRoot}
 
+-- v is the whole number nearest to the root of m, which lies between v - 1/2 and v + 1/2
+pub record NearestWhole (m v : ℕ) : Type 0 where
+  pub above-lower : v * v < m + v
+  pub below-upper : m ≤ v * v + v
+
 pub square-suc : (r : ℕ) → suc r * suc r ≡ r * r + 2 * r + 1
 square-suc r = suc-mul r (suc r) ∙ ap (λ (x : ℕ). x + suc r) (mul-suc r r) ∙ tidy (r * r) r
   where

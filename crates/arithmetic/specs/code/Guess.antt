@@ -1,5 +1,5 @@
 -- The guess at a significand's root, and the test that makes it good for a whole stretch of 2^17 significands.
--- 0x1000 is 2 ^ 12, 0x20000 2 ^ 17, 0x200000 2 ^ 21, 0x800000 2 ^ 23, 0x400000000 2 ^ 34.
+-- 0x1000 is 2 ^ 12, 0x20000 2 ^ 17, 0x200000 2 ^ 21, 0x800000 2 ^ 23, 0x40000000 2 ^ 30, 0x8000000000000 2 ^ 51.
 use Prim.Native.Nat.{ℕ, zero, suc, _+_, _-_, _*_, _/_, _%_, _<_, _≤_}
 use mathlib.Core.Bool.{Bool, true, _&&_}
 use lib.Dec.{leb}
@@ -11,10 +11,10 @@ pub record Beside (m v : ℕ) : Type 0 where
 
 -- what an entry of the table holds: the root in sixteenths is near base + slope * u + bump * u * (1 - u), u from 0 to 1
 abbrev pub base : ℕ → ℕ
-base e = e / 0x400000000
+base e = e / 0x200000 % 0x40000000
 
 abbrev pub bump : ℕ → ℕ
-bump e = e / 0x200000 % 0x2000
+bump e = e / 0x8000000000000
 
 abbrev pub slope : ℕ → ℕ
 slope e = e % 0x200000
@@ -23,9 +23,13 @@ slope e = e % 0x200000
 abbrev pub wide : ℕ → ℕ → ℕ
 wide i d = (0x800000 + i % 64 * 0x20000 + d) * (0x800000 * (2 - i / 64))
 
+-- the same for the number that the code makes of significand and exponent: its last 24 digits are the stretch and the place
+abbrev pub under : ℕ → ℕ
+under c = wide (c / 0x20000 % 128) (c % 0x20000)
+
 -- the guess at place t
 abbrev pub guessed : ℕ → ℕ → ℕ
-guessed e t = (base e + slope e * t / 0x20000 + bump e * (t * (0x20000 - t) / 0x20000) / 0x20000) / 16
+guessed e t = (base e * 0x20000 + slope e * t + bump e * (t * (0x20000 - t) / 0x20000)) / 0x200000
 
 -- ---- the test: 33 points of a stretch, 2 ^ 12 places apart
 
@@ -37,7 +41,7 @@ at e k = 0x400 * base e + 0x20 * (slope e * k) + bump e * (k * (0x20 - k))
 abbrev pub high : ℕ → ℕ → ℕ
 high e k = 4 * at e k + bump e - 0x18000
 
--- twice what no guess is below, plus 1/2, less the digits that it drops (0x5000 is 2 * 5/8 * 2 ^ 14)
+-- twice what no guess is below, plus 1/2, with 9/8 taken off for the digits that it drops (0x5000 is 2 * 5/8 * 2 ^ 14)
 abbrev pub low : ℕ → ℕ → ℕ
 low e k = 2 * at e k - 0x5000
 

@@ -1,29 +1,38 @@
--- `root::of_parts` meets its contract. Assumes nothing.
+-- `root::of_parts` meets its contract: the guess is the nearest whole number or the one above it. Assumes nothing.
 -- 0x800000 is 2 ^ 23, 0x1000000 is 2 ^ 24.
 use mathlib.Core.Path.{_≡_, sym, ap, _∙_, subst}
 use mathlib.Core.Logic.{inl, inr}
 use Prim.Native.Nat.{ℕ, _+_, _-_, _*_, _/_, _%_, _^_, _≤_, _<_}
+use native.Mathlib.Nat.{mul-le-mul}
 use native.Mathlib.Omega.{arith}
-use lib.Ieee.{binary32}
-use Rattle.arithmetic.specs.Root.{NearestWhole, nearestRoot}
-use Rattle.arithmetic.specs.code.Guess.{wide as placed}
-use Rattle.arithmetic.proofs.root.Whole.{Widened, even-or-odd, widened, half-power, greatest, built, no-nan}
+use lib.Dec.{leb}
+use lib.Ieee.{binary32, ofBits}
+use mir.Val.{boolByte}
+use Rattle.arithmetic.specs.Root.{nearestRoot}
+use Rattle.arithmetic.specs.code.Guess.{Beside, under}
+use Rattle.arithmetic.proofs.root.Squares.{NearestWhole}
+use Rattle.arithmetic.proofs.root.Whole.{Widened, even-or-odd, widened, half-power, stretch-half, stretch-place, small, at-most, mended, built, no-nan}
 use borrow.Author.Needs.{needs}
 use Rattle.arithmetic.proofs.root.of_parts.Statement.{statement}
 use Rattle.arithmetic.proofs.root.of_parts.Tie as tie
 
-abbrev moved : tie.Start → ℕ
-moved c = c .args .m * 2 ^ (24 - c .args .g % 2)
+-- the significand and the exponent that one number stands for
+abbrev digits : ℕ → ℕ
+digits c = c % 0x800000 + 0x800000
 
--- the place of m in its stretch
-stretch : (m g : ℕ) → 0x800000 ≤ m → m < 0x1000000 →
-    placed ((g % 2 * 0x800000 + m % 0x800000) / 0x20000) ((g % 2 * 0x800000 + m % 0x800000) % 0x20000) ≡ m * 2 ^ (24 - g % 2)
-stretch m g lo hi =
-    let b = g % 2 * 0x800000 + m % 0x800000 in
-    let p : 0x800000 + b / 0x20000 % 64 * 0x20000 + b % 0x20000 ≡ m = omega arith in
-    let q : b / 0x20000 / 64 ≡ g % 2 = omega arith in
-    ap (λ (x : ℕ). x * (0x800000 * (2 - b / 0x20000 / 64))) p ∙ ap (λ (x : ℕ). m * (0x800000 * (2 - x))) q ∙ ap (λ (x : ℕ). m * x) (power g)
+abbrev exponent : ℕ → ℕ
+exponent c = c / 0x800000 + 26
+
+parts : (c : ℕ) → under c ≡ digits c * 2 ^ (24 - exponent c % 2)
+parts c =
+    let i = c / 0x20000 % 128 in
+    let q : i / 64 ≡ exponent c % 2 = stretch-half c ∙ last (c / 0x800000) in
+    ap (λ (x : ℕ). x * (0x800000 * (2 - i / 64))) (stretch-place c) ∙ ap (λ (x : ℕ). digits c * (0x800000 * (2 - x))) q
+    ∙ ap (λ (x : ℕ). digits c * x) (power (exponent c))
   where
+    last : (x : ℕ) → x % 2 ≡ (x + 26) % 2
+    last x = omega arith
+
     power : (g : ℕ) → 0x800000 * (2 - g % 2) ≡ 2 ^ (24 - g % 2)
     power g =
         elim (even-or-odd g) [
@@ -31,71 +40,95 @@ stretch m g lo hi =
           | inr e ↦ rw e
         ]
 
-wide : (c : tie.Start) → Widened (c .args .m) (moved c)
-wide c = widened (c .args .m) (c .args .g) (c .pre .0) (c .pre .1)
+-- half of the exponent that is left
+half : (c : ℕ) → (c + 0x800000) / 0x1000000 ≡ (exponent c + 1) / 2 - 13
+half c = omega arith
 
-near : (c : tie.After-near-root) → NearestWhole (moved (c .before .before)) (c .near-root .result)
-near c = subst (λ (n : ℕ). NearestWhole n (c .near-root .result)) (c .before .widened .ensures) (c .near-root .ensures)
+module _ (c : tie.After-widened) where
+  abbrev k : ℕ
+  k = c .before .before .args .c
 
-small : (c : tie.After-near-root) → c .near-root .result < 0x1000000
-small c = greatest (moved (c .before .before)) (c .near-root .result) (wide (c .before .before) .high) (near c)
+  abbrev m : ℕ
+  m = c .widened .result
+
+  abbrev v : ℕ
+  v = c .before .guess .result
+
+  -- what the comparison takes off
+  abbrev off : ℕ
+  off = boolByte (leb (m + v) (v * v))
+
+  beside : Beside m v
+  beside = subst (λ (n : ℕ). Beside n v) (sym (c .widened .ensures)) (c .before .guess .ensures)
+
+  is : m ≡ digits k * 2 ^ (24 - exponent k % 2)
+  is = c .widened .ensures ∙ parts k
+
+  wide : Widened (digits k) m
+  wide = subst (Widened (digits k)) (sym is) (widened (digits k) (exponent k) (omega arith) (omega arith))
+
+  guess-small : v < 0x2000000
+  guess-small = small m v (omega (arith, wide .high)) beside
+
+  near : NearestWhole m (v - off)
+  near = mended m v beside
+
+  off-fits : off ≤ v
+  off-fits = at-most m v beside
+
+guess-requires : tie.Need-guess-requires
+guess-requires c κs = search needs
 
 widened-requires : tie.Need-widened-requires
 widened-requires c κs = search needs
 
-mul-near-root : tie.Need-mul-near-root
-mul-near-root c = search needs
-
-add-near-root : tie.Need-add-near-root
-add-near-root c = search needs
-
-near-root-requires : tie.Need-near-root-requires
-near-root-requires c κs =
-    let w = wide (c .before) in
-    let a = c .before .args in
-    let p = c .before .pre in (
-      omega arith,
-      omega (arith, c .widened .ensures, w .low, w .high),
-      c .widened .ensures ∙ sym (stretch (a .m) (a .g) (p .0) (p .1)),
-    )
-
 add-result : tie.Need-add-result
 add-result c = search needs
-
-sub-result : tie.Need-sub-result
-sub-result c = search needs
 
 mul-result : tie.Need-mul-result
 mul-result c = search needs
 
 add-result-2 : tie.Need-add-result-2
-add-result-2 c = omega (arith, small c)
+add-result-2 c = omega (arith, guess-small c)
+
+mul-result-2 : tie.Need-mul-result-2
+mul-result-2 c = let l : v c ≤ 0x2000000 = omega (arith, guess-small c) in omega (arith, mul-le-mul l l)
+
+add-result-3 : tie.Need-add-result-3
+add-result-3 c = omega (arith, guess-small c, wide c .high)
 
 cast-result : tie.Need-cast-result
-cast-result c = omega (arith, small c)
+cast-result c = search needs
+
+sub-result : tie.Need-sub-result
+sub-result c = omega (arith, off-fits c)
+
+cast-result-2 : tie.Need-cast-result-2
+cast-result-2 c = omega (arith, guess-small c)
 
 float-from-bits-result : tie.Need-float-from-bits-result
-float-from-bits-result c = no-nan (((c .before .before .args .g + 1) / 2 - 13) * 0x800000 + c .near-root .result) (omega (arith, small c))
+float-from-bits-result c = no-nan _ (omega (arith, guess-small c))
 
 returns : tie.Need-returns
 returns c =
-    let a = c .before .before .args in
-    let w = wide (c .before .before) in
-    built (moved (c .before .before)) ((a .g + 1) / 2 - 13) (c .near-root .result) (omega arith) (w .low) (w .high) (near c)
-    ∙ ap (nearestRoot binary32) (half-power (a .m) (a .g) (c .before .before .pre .2))
+    let h = (exponent (k c) + 1) / 2 - 13 in
+    let e : (k c + 0x800000) / 0x1000000 * 0x800000 + v c - off c ≡ h * 0x800000 + (v c - off c) = omega (arith, half (k c), off-fits c) in
+    ap (ofBits binary32) e ∙ built (m c) h (v c - off c) (omega arith) (wide c .low) (wide c .high) (near c)
+    ∙ ap (nearestRoot binary32) (ap (λ (n : ℕ). n * 2 ^ (2 * h + 2)) (is c) ∙ half-power (digits (k c)) (exponent (k c)) (omega arith))
 
 pub of-parts-spec : {M : Type 1} → statement M
 of-parts-spec =
     tie.close
     (tie.spec
+    guess-requires
     widened-requires
-    mul-near-root
-    add-near-root
-    near-root-requires
     add-result
-    sub-result
     mul-result
     add-result-2
+    mul-result-2
+    add-result-3
     cast-result
+    sub-result
+    cast-result-2
     float-from-bits-result
     returns)

@@ -1,10 +1,14 @@
 use Rattle.laws.specs.Math.{clampSymmetric}
+use Rattle.laws.proofs.Ordered.{limit-ordered}
 use Rattle.laws.proofs.math.clamp_symmetric.Statement.{statement}
 use Rattle.laws.proofs.math.clamp_symmetric.Tie as tie
 
+clamp-ordered-requires : tie.Need-clamp-ordered-requires
+clamp-ordered-requires c κs = rw (c .limit-or-zero .ensures) (limit-ordered (c .before .args .limit))
+
 returns : tie.Need-returns
 unfolding clampSymmetric
-returns c = rw (c .clamp .ensures, c .before .limit-or-zero .ensures)
+returns c = rw (c .clamp-ordered .ensures, c .before .limit-or-zero .ensures)
 
 pub clamp-symmetric-spec : {M : Type 1} → statement M
-clamp-symmetric-spec = tie.close (tie.spec (λ c κs. tt) (λ c κs. tt) returns)
+clamp-symmetric-spec = tie.close (tie.spec (λ c κs. tt) clamp-ordered-requires returns)

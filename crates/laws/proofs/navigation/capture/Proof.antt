@@ -1,5 +1,6 @@
 use Rattle.arithmetic.specs.Order.{clamp}
 use Rattle.laws.specs.Navigation.{capture}
+use Rattle.laws.proofs.Ordered.{capture-ordered}
 use Rattle.laws.proofs.Steering.{past-left, past-right}
 use Rattle.laws.proofs.navigation.capture.Statement.{statement}
 use Rattle.laws.proofs.navigation.capture.Tie as tie
@@ -16,7 +17,7 @@ returns-3 : tie.Need-returns-3
 unfolding capture clamp
 returns-3 c =
     let e = c .before .before in
-    rw (c .clamp .ensures, c .before .arcsine .ensures, e .before .if1 .left, e .if2 .left)
+    rw (c .clamp-ordered .ensures, c .before .arcsine .ensures, e .before .if1 .left, e .if2 .left)
 
 pub capture-spec : {M : Type 1} → statement M
-capture-spec = tie.close (tie.spec returns returns-2 (λ c κs. tt) (λ c κs. tt) returns-3)
+capture-spec = tie.close (tie.spec returns returns-2 (λ c κs. tt) (λ c κs. capture-ordered) returns-3)

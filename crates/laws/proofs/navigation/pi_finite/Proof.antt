@@ -1,6 +1,12 @@
 use Rattle.laws.specs.Navigation.{piFinite}
+use Rattle.laws.proofs.Ordered.{greatest-ordered}
 use Rattle.laws.proofs.navigation.pi_finite.Statement.{statement}
 use Rattle.laws.proofs.navigation.pi_finite.Tie as tie
+
+clamp-ordered-requires : tie.Need-clamp-ordered-requires
+clamp-ordered-requires c κs =
+    let c5 = c .before .before .before .before .before in
+    rw (c5 .greatest .ensures) (greatest-ordered _ _)
 
 returns : tie.Need-returns
 unfolding piFinite
@@ -11,7 +17,7 @@ returns c =
     let c4 = c3 .before in
     let c5 = c4 .before in
     let c6 = c5 .before in
-    rw (← c6 .greatest .ensures, ← c4 .pi-pinned .ensures, ← c2 .clamp-symmetric .ensures, ← c1 .choose .ensures, ← c .clamp .ensures)
+    rw (← c6 .greatest .ensures, ← c4 .pi-pinned .ensures, ← c2 .clamp-symmetric .ensures, ← c1 .choose .ensures, ← c .clamp-ordered .ensures)
 
 pub pi-finite-spec : {M : Type 1} → statement M
-pi-finite-spec = tie.close (tie.spec (λ c κs. tt) (λ c κs. tt) (λ c κs. tt) (λ c κs. tt) (λ c κs. tt) returns)
+pi-finite-spec = tie.close (tie.spec (λ c κs. tt) (λ c κs. tt) (λ c κs. tt) (λ c κs. tt) clamp-ordered-requires returns)
