@@ -180,8 +180,8 @@ fn of_parts(c: u64) -> f32
 }
 
 // Root. A normal number above zero is told by one test. NaN, the infinity and the zeros are their own roots, what else lies below zero
-// has none, and subnormals are moved up to 24 digits. One place calls `of_parts`, so that a root is one call and, taken twice of one
-// number, is worked out once. 0x3e00_0000 is 124 * 2^23, 0x7f80_0000 the infinity's pattern, 0x8000_0000 that of -0.
+// has none, and subnormals are moved up to 24 digits. One place calls `of_parts`, so that a root is one call, and the compiler can
+// take that of one number once. 0x3e00_0000 is 124 * 2^23, 0x7f80_0000 the infinity's pattern, 0x8000_0000 that of -0.
 pub fn root(x: f32) -> f32
     ensures { λ r. ⌜ IsRoot x r ⌝ }
 {

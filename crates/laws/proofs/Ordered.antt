@@ -1,9 +1,8 @@
--- Bounds that are not crossed, whatever the numbers: a limit's, and a number's with the greatest of it and another.
+-- Bounds that are not crossed, whatever the numbers: ± a limit, and a number with the greatest of it and another.
 use mathlib.Core.Path.{_≡_, refl, sym, _∙_}
 use mathlib.Core.Bool.{Bool, true, false, cond}
-use lib.Ieee as Ieee
 use lib.Ieee.{Float, isNan, neg, lt, le}
-use Rattle.arithmetic.specs.Constants.{n0, fracPi4}
+use Rattle.arithmetic.specs.Constants.{n0}
 use Rattle.arithmetic.specs.Order.{greatest}
 use Rattle.arithmetic.proofs.Bounds.{never′, le-self, zero-number, zero-between, greatest-right, lt-right}
 use Rattle.arithmetic.proofs.Sums.{le-not-lt}
@@ -17,10 +16,9 @@ limit-number limit = go (le n0 limit) refl
     go true e = e
     go false e = le-self n0 zero-number
 
-pub limit-ordered : (limit : Float) → lt (limitOrZero limit) (neg (limitOrZero limit)) ≡ false
-limit-ordered limit =
-    let l = limitOrZero limit in
-    le-not-lt (neg l) l (zero-between l l (limit-number limit) (limit-number limit))
+-- a number that is not below 0, and itself turned
+pub sides-ordered : (x : Float) → le n0 x ≡ true → lt x (neg x) ≡ false
+sides-ordered x p = le-not-lt (neg x) x (zero-between x x p p)
 
 pub greatest-ordered : (a b : Float) → lt (greatest a b) b ≡ false
 greatest-ordered a b = go (isNan b) refl (lt (greatest a b) b) refl
@@ -29,7 +27,3 @@ greatest-ordered a b = go (isNan b) refl (lt (greatest a b) b) refl
     go n e false f = f
     go false e true f = le-not-lt b (greatest a b) (greatest-right a b e)
     go true e true f = never′ (sym e ∙ lt-right (greatest a b) b f)
-
-pub capture-ordered : lt fracPi4 (neg fracPi4) ≡ false
-unfolding Ieee.ofBits lt neg
-capture-ordered = refl

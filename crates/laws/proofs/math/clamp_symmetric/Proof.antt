@@ -1,10 +1,10 @@
 use Rattle.laws.specs.Math.{clampSymmetric}
-use Rattle.laws.proofs.Ordered.{limit-ordered}
+use Rattle.laws.proofs.Ordered.{limit-number, sides-ordered}
 use Rattle.laws.proofs.math.clamp_symmetric.Statement.{statement}
 use Rattle.laws.proofs.math.clamp_symmetric.Tie as tie
 
 clamp-ordered-requires : tie.Need-clamp-ordered-requires
-clamp-ordered-requires c κs = rw (c .limit-or-zero .ensures) (limit-ordered (c .before .args .limit))
+clamp-ordered-requires c κs = rw (c .limit-or-zero .ensures) (sides-ordered _ (limit-number (c .before .args .limit)))
 
 returns : tie.Need-returns
 unfolding clampSymmetric

@@ -1,14 +1,15 @@
 use mathlib.Core.Path.{_≡_, refl}
-use mathlib.Core.Bool.{false}
-use lib.Ieee.{neg, lt, ofBits}
-use Rattle.arithmetic.specs.Constants.{fracPi2}
+use mathlib.Core.Bool.{true}
+use lib.Ieee.{le, ofBits}
+use Rattle.arithmetic.specs.Constants.{n0, fracPi2}
+use Rattle.laws.proofs.Ordered.{sides-ordered}
 use Rattle.path.specs.Model.{turnInStep}
 use Rattle.path.proofs.model.turn_in_step.Statement.{statement}
 use Rattle.path.proofs.model.turn_in_step.Tie as tie
 
-quarters-ordered : lt fracPi2 (neg fracPi2) ≡ false
-unfolding ofBits lt neg
-quarters-ordered = refl
+above : le n0 fracPi2 ≡ true
+unfolding ofBits le
+above = refl
 
 returns : tie.Need-returns
 unfolding turnInStep
@@ -17,4 +18,4 @@ returns c =
     rw (c .clamp-ordered .ensures, c1 .turn-rate .ensures)
 
 pub turn-in-step-spec : {M : Type 1} → statement M
-turn-in-step-spec = tie.close (tie.spec (λ c κs. tt) (λ c κs. quarters-ordered) returns)
+turn-in-step-spec = tie.close (tie.spec (λ c κs. tt) (λ c κs. sides-ordered fracPi2 above) returns)
