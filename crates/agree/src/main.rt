@@ -1,6 +1,8 @@
 // Holds two recordings together: the box's from standard input, the display's from descriptor 3. Writes a line: `agree`; `part` and
 // the numbers of the calls at which they part; or `box` or `display` and the desk program's line of its refusal. A read or a write
 // that fails is told by a line on standard error.
+#![tactic(auto)]
+
 ghost use Rattle.std.specs.Prelude.{◌≤◌};
 
 use agreement::{Agreement, BOX, agree};

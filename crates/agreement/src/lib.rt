@@ -3,6 +3,8 @@
 //
 // Each recording is read to its end first, as for its compaction; where one is refused, that is the answer. Then a cursor in each
 // goes from one remaining call to the next, for as long as the two calls are the same.
+#![tactic(auto)]
+
 ghost use Rattle.std.specs.Prelude.{◌≡◌, ◌≤◌, length};
 ghost use Rattle.compaction.specs.Code.Steps.{decided};
 ghost use Rattle.agreement.specs.Agreement as spec;
@@ -25,7 +27,7 @@ pub const DISPLAY: u32 = 2;
 
 // They agree; or they part at the calls of these numbers, 0 in both for the configuration, and 0 where a recording has no call
 // left; or one of them is refused, as its compaction would be.
-#[derive(Drop)]
+#[derive(Clone, Copy)]
 pub enum Agreement {
     Agree,
     Part {
@@ -47,7 +49,7 @@ pub enum Agreement {
 const MOST_CALLS: u32 = 4096;
 
 // A place after a call: the guidance there, whether the last accepted guide or prime call was a fallback, and the call's number.
-#[derive(Drop)]
+#[derive(Clone, Copy)]
 struct Place {
     guidance: PlaneGuidance,
     at: usize,
@@ -56,7 +58,7 @@ struct Place {
 }
 
 // A remaining call, and the place after it, whose number is 0 where no call remains.
-#[derive(Drop)]
+#[derive(Clone, Copy)]
 struct Told {
     call: Call,
     place: Place,

@@ -4,13 +4,13 @@ ghost use Rattle.arithmetic.specs.Vector as spec;
 
 use crate::root::root;
 
-#[derive(Drop)]
+#[derive(Clone, Copy)]
 pub struct Vec2 {
     pub x: f32,
     pub y: f32,
 }
 
-#[derive(Drop)]
+#[derive(Clone, Copy)]
 pub enum Normalised {
     None,
     Parts(Vec2),

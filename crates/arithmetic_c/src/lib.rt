@@ -1,4 +1,6 @@
 // Five functions of `arithmetic` for C and Rust: what tools/bench/arithmetic times and tools/standins compares.
+#![tactic(auto)]
+
 ghost use Rattle.std.specs.Prelude.{◌≡◌};
 ghost use Rattle.std.specs.Float.{binary32};
 ghost use Rattle.arithmetic.specs.Root.{root_of};

@@ -1,5 +1,7 @@
 // Runs the crate `arithmetic` on the rows of data/ and counts those that it answers as they say, bit for bit, every NaN alike.
 // tools/vectors/arithmetic.py makes the rows and says what is in one.
+#![tactic(auto)]
+
 ghost use Rattle.std.specs.Prelude.{◌≤◌};
 
 use arithmetic::vector::{Normalised, Vec2};
@@ -7,7 +9,7 @@ use arithmetic::{order, root, trigonometry, vector};
 use case_rows::{Count, bits, number_of, plus, print_count, word_of};
 
 // A row's results: a number's bits or a truth, and the parts of a normalised vector after it.
-#[derive(Drop)]
+#[derive(Clone, Copy)]
 struct Answer {
     first: u32,
     x: u32,
@@ -15,7 +17,7 @@ struct Answer {
 }
 
 // Whether there was a row, and 1 if its answer was right.
-#[derive(Drop)]
+#[derive(Clone, Copy)]
 struct Tried {
     found: bool,
     right: u32,

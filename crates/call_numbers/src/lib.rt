@@ -1,4 +1,6 @@
 // A call as a host gives it: numbers and flags.
+#![tactic(auto)]
+
 ghost use Rattle.std.specs.Prelude.{◌≡◌};
 ghost use Rattle.call_numbers.specs.Call as spec;
 
@@ -13,7 +15,7 @@ use records::call::Call;
 // A call as numbers. kind: as in the record; regime: 0 copter, 1 plane; first to fourth: the command numbers in the order
 // `guide_capped` reads them; has_leg, has_airspeed, has_cap: flags, 0 or not 0. What the kind does not use is not read.
 #[repr(C)]
-#[derive(Drop)]
+#[derive(Clone, Copy)]
 pub struct CallNumbers {
     pub kind: u32,
     pub regime: u32,

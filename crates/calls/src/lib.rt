@@ -1,4 +1,6 @@
 // A record's call, carried out on a guidance.
+#![tactic(auto)]
+
 ghost use Rattle.std.specs.Prelude.{◌≡◌};
 ghost use Rattle.claims.specs.Calls as spec;
 ghost use Rattle.calls.specs.Calls as is;
@@ -8,7 +10,7 @@ use laws::types::{ControlInput, FlightRegime, OptionF32, Vec3, VehicleState};
 use records::call::Call;
 
 // What `guide_capped` takes besides the guidance.
-#[derive(Drop)]
+#[derive(Clone, Copy)]
 pub struct GuideCall {
     pub dt: f32,
     pub regime: FlightRegime,
@@ -17,19 +19,19 @@ pub struct GuideCall {
     pub cap: OptionF32,
 }
 
-#[derive(Drop)]
+#[derive(Clone, Copy)]
 pub enum Wanted {
     Prime,
     Guide(GuideCall),
 }
 
-#[derive(Drop)]
+#[derive(Clone, Copy)]
 pub enum Reply {
     Answered(Answer),
     Primed,
 }
 
-#[derive(Drop)]
+#[derive(Clone, Copy)]
 pub struct Performed {
     pub guidance: PlaneGuidance,
     pub reply: Reply,

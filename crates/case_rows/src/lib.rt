@@ -1,11 +1,13 @@
 // What the programs over rows of figures share: a row's words and numbers, and how many rows were right. A row that a program reads
 // is its own array, and a function cannot be handed on, so that each program has its own loop over its rows.
+#![tactic(auto)]
+
 ghost use Rattle.std.specs.Prelude.{◌≡◌, ◌≤◌, from_bits, to_bits};
 ghost use Rattle.std.specs.Float.{binary32};
 
 use libc::STDOUT_FILENO;
 
-#[derive(Drop)]
+#[derive(Clone, Copy)]
 pub struct Count {
     pub rows: u32,
     pub right: u32,

@@ -1,5 +1,7 @@
 // Compacts a recording: reads it from standard input and writes the short one to standard output. A refusal is told as
 // the desk program would print it, by a line on standard error, and leaves standard output empty.
+#![tactic(auto)]
+
 use compaction::{Compacted, compact};
 use input::{input_room, read_input, tell};
 use replay::turn::{refused_line, stopped_line};

@@ -2,6 +2,8 @@
 //
 // Two passes. The first reads the recording to its end and touches nothing; where it finds a refusal, that is the answer.
 // The second carries the calls out one after another and moves the records that stay to the front.
+#![tactic(auto)]
+
 ghost use Rattle.std.specs.Prelude.{◌≡◌, ◌++◌, ◌≤◌, ◌+◌, ◌-◌, length, take, drop, replicate};
 ghost use Rattle.fields.specs.Bytes.{put_at};
 ghost use Rattle.calls.specs.Calls.{as_reply};
@@ -17,7 +19,7 @@ use records::config::{ReadConfig, read_config};
 
 // The new length; or what the desk program's text ends in: `config refused FIELD`, or `NUMBER stopped REFUSAL`, where
 // number 0 is the configuration.
-#[derive(Drop)]
+#[derive(Clone, Copy)]
 pub enum Compacted {
     Length(usize),
     Refused(u32),
@@ -28,21 +30,21 @@ pub enum Compacted {
 const MOST_CALLS: u32 = 4096;
 
 // Whether a call is struck, and whether the last accepted guide or prime call, after it, was a fallback.
-#[derive(Drop)]
+#[derive(Clone, Copy)]
 pub struct Judged {
     pub struck: bool,
     pub fell: bool,
 }
 
 // Where reading stopped: the number of the call that could not be read with its refusal, or 0 for the end.
-#[derive(Drop)]
+#[derive(Clone, Copy)]
 struct Scanned {
     number: u32,
     refusal: u32,
 }
 
 // What the first pass decides: the guidance to start with and the place of the first call, or the refusal.
-#[derive(Drop)]
+#[derive(Clone, Copy)]
 pub enum Decided {
     Sound {
         guidance: PlaneGuidance,

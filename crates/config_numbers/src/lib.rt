@@ -1,4 +1,6 @@
 // A configuration as the bits of its 33 numbers, fields 1 to 33, as its record has them.
+#![tactic(auto)]
+
 ghost use Rattle.std.specs.Prelude.{◌≡◌};
 ghost use Rattle.laws.specs.Config.{default};
 ghost use Rattle.fields.specs.Numbers.{floats_of, bits_of};

@@ -2,6 +2,8 @@
 //
 // It reads to the end, or as far as anything that follows can no longer change the text. A read or a write that fails is
 // told by a line on standard error; a read that fails leaves standard output empty.
+#![tactic(auto)]
+
 ghost use Rattle.std.specs.Prelude.{◌≡◌, ◌≤◌, length};
 ghost use Rattle.replay.specs.Sizes.{text_room};
 ghost use Rattle.desk.specs.Shown.{Shown};

@@ -1,6 +1,8 @@
 // Converts call records: reads from standard input a byte, the wanted edition, and call records one behind the other, and writes
 // them in that edition to standard output. A refusal is told by a line on standard error, with the number of the record, from 1,
 // and leaves standard output empty; so does input that is longer than the program holds.
+#![tactic(auto)]
+
 ghost use Rattle.std.specs.Prelude.{◌≡◌, ◌≤◌, ◌<◌, length};
 ghost use Rattle.fields.specs.Bytes.{put_at};
 ghost use Rattle.replay.specs.Sizes.{decisive};
@@ -15,7 +17,7 @@ const STANDARD_OUTPUT: i32 = 1;
 const STANDARD_ERROR: i32 = 2;
 
 // How many bytes were written; or the number of the record that was refused, and its refusal; or that the input is too long.
-#[derive(Drop)]
+#[derive(Clone, Copy)]
 enum Done {
     Size(usize),
     Stopped { number: u32, refusal: u32 },

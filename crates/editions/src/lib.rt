@@ -3,6 +3,8 @@
 //
 // The fields of both stand at the same places. So a record of one edition is spelled as the other by turning the sign bits of
 // the fields with down positive, in place, and the call reader and the call writer serve both.
+#![tactic(auto)]
+
 ghost use Rattle.std.specs.Prelude.{◌≡◌, true, ◌++◌, ◌≤◌, ◌<◌, ◌+◌, length, take, drop};
 ghost use Rattle.fields.specs.Bytes.{number_at, bytes_of};
 ghost use Rattle.fields.specs.Fields.{size_of};
@@ -17,7 +19,7 @@ use fields::bytes::{read_number, write_number};
 use records::call::{Call, ReadCall, fields_size, is_complete, read_call};
 use records::call_writer::write_call;
 
-#[derive(Drop)]
+#[derive(Clone, Copy)]
 pub enum Edition {
     First,
     Second,
@@ -25,7 +27,7 @@ pub enum Edition {
 
 // What a conversion answers: the place after the record that was read and the place after the one that was written, or the
 // refusal's number.
-#[derive(Drop)]
+#[derive(Clone, Copy)]
 pub enum Converted {
     Places { read: usize, written: usize },
     Refused(u8),

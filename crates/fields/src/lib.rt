@@ -1,5 +1,7 @@
 // The fields of a record: numbers in bytes, a map whose bit n says whether field n stands, and the loops over the fields
 // that are numbers of four bytes.
+#![tactic(auto)]
+
 pub mod bytes;
 pub mod numbers;
 
@@ -10,14 +12,14 @@ ghost use Rattle.fields.specs.Fields.{number_fields, ones, values_at, is_written
 use crate::bytes::{read_number, write_number};
 
 // What a writer answers: the place after the record, or the refusal's number.
-#[derive(Drop)]
+#[derive(Clone, Copy)]
 pub enum Written {
     Next(usize),
     Refused(u8),
 }
 
 // Where the next field of a record starts.
-#[derive(Drop)]
+#[derive(Clone, Copy)]
 pub struct Cursor {
     pub at: usize,
 }

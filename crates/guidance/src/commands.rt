@@ -12,7 +12,7 @@ use laws::types::{
 };
 
 // What a command asks: a setpoint that it gives itself, or a waypoint to fly.
-#[derive(Drop)]
+#[derive(Clone, Copy)]
 pub enum Order {
     Setpoint(Setpoint),
     Waypoint(WaypointCommand),

@@ -9,7 +9,7 @@ use laws::tecs::Tecs;
 use laws::types::Setpoint;
 
 // The guidance after a row's call, and whether all was as the row says.
-#[derive(Drop)]
+#[derive(Clone, Copy)]
 pub struct Checked {
     pub guidance: PlaneGuidance,
     pub right: bool,

@@ -1,5 +1,7 @@
 // Replays the oracle's fixed list, as tools/vectors/guidance.py writes it, and counts the rows whose answer and stored state are
 // the row's, bit for bit, every NaN alike.
+#![tactic(auto)]
+
 mod calls;
 mod check;
 mod rows;
@@ -12,7 +14,7 @@ use laws::navigation::PiLoop;
 use laws::{config, tecs};
 
 // Whether there was a row, 1 if all was right, and the guidance for the next row.
-#[derive(Drop)]
+#[derive(Clone, Copy)]
 struct Tried {
     found: bool,
     right: u32,

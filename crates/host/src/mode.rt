@@ -8,7 +8,7 @@ use rights::{Deed, may};
 // refusal: 0 or the refusal's number; value: of the mode 0, or 1 where the request is unsupported (always plane); of the stall
 // guard 1 where it stands, else 0. Refused, the value is 0.
 #[repr(C)]
-#[derive(Drop)]
+#[derive(Clone, Copy)]
 pub struct Report {
     pub refusal: u32,
     pub value: u32,

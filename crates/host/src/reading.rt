@@ -7,7 +7,7 @@ use records::config::{ReadConfig, read_config};
 
 // A configuration that was read; the defaults where it was refused.
 #[repr(C)]
-#[derive(Drop)]
+#[derive(Clone, Copy)]
 pub struct ConfigRead {
     pub refusal: u32,
     pub next: usize,

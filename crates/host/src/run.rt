@@ -12,7 +12,7 @@ use records::config::{ReadConfig, read_config};
 use rights::{Deed, may};
 
 // The guidance after a call, and the call's answer.
-#[derive(Drop)]
+#[derive(Clone, Copy)]
 pub struct Ran {
     pub guidance: PlaneGuidance,
     pub answer: RunAnswer,

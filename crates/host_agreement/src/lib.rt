@@ -1,5 +1,7 @@
 // Two recordings held together, for a host in C or Rust: an object of its own, so that the code of a call stays one piece in it.
 // Whoever replays records acts as the skipper (document 02, K9): there is no caller to judge.
+#![tactic(auto)]
+
 ghost use Rattle.std.specs.Prelude.{◌≡◌};
 ghost use Rattle.agreement.specs.Agreement.{agreement};
 ghost use Rattle.host_agreement.specs.Agreed as spec;
@@ -10,7 +12,7 @@ use agreement::{Agreement, agree};
 // configuration, 0 where no call is left. whose: 0, or 1 for the box's recording, 2 for the display's, with what refused it:
 // refusal, field and call as a compaction has them.
 #[repr(C)]
-#[derive(Drop)]
+#[derive(Clone, Copy)]
 pub struct Agreed {
     pub agree: u32,
     pub box_call: u32,

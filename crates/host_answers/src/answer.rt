@@ -12,7 +12,7 @@ use laws::types::Setpoint;
 // cross_track_m: of a waypoint the distance off its line, right positive, else +0; next: the place after the record, 0 where
 // no record was read.
 #[repr(C)]
-#[derive(Drop)]
+#[derive(Clone, Copy)]
 pub struct RunAnswer {
     pub refusal: u32,
     pub field: u32,

@@ -6,7 +6,7 @@ use fields::Written;
 
 // refusal: 0 or the refusal's number; next: the place after the record, 0 where there is none.
 #[repr(C)]
-#[derive(Drop)]
+#[derive(Clone, Copy)]
 pub struct Place {
     pub refusal: u32,
     pub next: usize,

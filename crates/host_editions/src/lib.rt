@@ -1,5 +1,7 @@
 // Records of both editions for a host in C or Rust, an object of its own in the archive: a call record is converted from one
 // buffer into another.
+#![tactic(auto)]
+
 ghost use Rattle.std.specs.Prelude.{◌≡◌};
 ghost use Rattle.host_editions.specs.Conversion as spec;
 
@@ -8,7 +10,7 @@ use editions::{Converted, Edition, convert};
 // refusal: 0 or the refusal's number; read, written: the places after the record that was read and after the one that was
 // written, 0 where there is a refusal.
 #[repr(C)]
-#[derive(Drop)]
+#[derive(Clone, Copy)]
 pub struct Conversion {
     pub refusal: u32,
     pub read: usize,

@@ -1,6 +1,8 @@
 // Recordings for a host in C or Rust, beside the guidance of `host`: an object of its own, so that the code of a call stays one
 // piece there. A recording is compacted inside its buffer. Whoever replays records acts as the skipper (document 02, K9): there is no
 // caller to judge.
+#![tactic(auto)]
+
 ghost use Rattle.std.specs.Prelude.{◌≡◌};
 ghost use Rattle.replay.specs.Recording.{recording};
 ghost use Rattle.compaction.specs.Compaction.{compacted, bytes_after};
@@ -11,7 +13,7 @@ use compaction::{Compacted, compact};
 // refusal: 0 or the refusal's number; field: of refusal 1 the failing field's number; call: the number of the call whose
 // record was refused, 0 for the configuration; length: the new length, 0 where the recording was refused.
 #[repr(C)]
-#[derive(Drop)]
+#[derive(Clone, Copy)]
 pub struct Compaction {
     pub refusal: u32,
     pub field: u32,

@@ -16,7 +16,7 @@ use routes::{Route, RouteCall, fly};
 // What loading answers. refusal: 0 or the refusal's number; number: 1, the point that is flown to first; next: the place
 // after the record. Refused, all but the refusal are 0.
 #[repr(C)]
-#[derive(Drop)]
+#[derive(Clone, Copy)]
 pub struct RouteLoaded {
     pub refusal: u32,
     pub number: u32,
@@ -26,7 +26,7 @@ pub struct RouteLoaded {
 
 // A route call as numbers: the route's map and number, and what comes with the call. has_airspeed, has_cap: flags, 0 or not 0.
 #[repr(C)]
-#[derive(Drop)]
+#[derive(Clone, Copy)]
 pub struct RouteNumbers {
     pub map: u64,
     pub number: u32,
@@ -43,14 +43,14 @@ pub struct RouteNumbers {
 
 // The answer, whose place is 0, and the route's number after the call.
 #[repr(C)]
-#[derive(Drop)]
+#[derive(Clone, Copy)]
 pub struct RouteAnswer {
     pub answer: RunAnswer,
     pub number: u32,
 }
 
 // The guidance after a route call, and the call's answer.
-#[derive(Drop)]
+#[derive(Clone, Copy)]
 pub struct RouteRan {
     pub guidance: PlaneGuidance,
     pub answer: RouteAnswer,

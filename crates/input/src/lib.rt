@@ -1,5 +1,7 @@
 // What the programs desk, compact, agree and edition share: input, as many bytes as decide what they answer, and the line that
 // tells a refusal.
+#![tactic(auto)]
+
 ghost use Rattle.std.specs.Prelude.{◌≡◌, ◌≤◌, length};
 ghost use Rattle.io.specs.Counts.{IsPrefixLen};
 ghost use Rattle.replay.specs.Sizes.{decisive};
@@ -19,7 +21,7 @@ const STANDARD_INPUT: i32 = 0;
 const STANDARD_ERROR: i32 = 2;
 
 // How many bytes were read, and whether a read failed after them.
-#[derive(Drop)]
+#[derive(Clone, Copy)]
 pub struct Input {
     pub size: usize,
     pub failed: bool,

@@ -8,7 +8,7 @@ use arithmetic::trigonometry::{FRAC_PI_2, PI};
 
 // Fields 15 to 30: total energy control.
 #[repr(C)]
-#[derive(Drop)]
+#[derive(Clone, Copy)]
 pub struct TecsConfig {
     pub time_constant_s: f32,
     pub max_climb_mps: f32,
@@ -30,7 +30,7 @@ pub struct TecsConfig {
 
 // Fields 1 to 14 (max_rate_radps is three), the energy configuration, and fields 31 to 33.
 #[repr(C)]
-#[derive(Drop)]
+#[derive(Clone, Copy)]
 pub struct PlaneGuidanceConfig {
     pub max_bank_rad: f32,
     pub max_pitch_up_rad: f32,

@@ -17,7 +17,7 @@ const MAX_CAPTURE_RAD: f32 = FRAC_PI_4;
 
 // What a lateral law answers: the acceleration in m/s² and the distance off its line in m, both right positive; idle where
 // it gave up for want of a leg or a course.
-#[derive(Drop)]
+#[derive(Clone, Copy)]
 pub struct Lateral {
     pub accel_mps2: f32,
     pub cross_track_m: f32,
@@ -25,21 +25,21 @@ pub struct Lateral {
 }
 
 // The L1 distance and gain for a ground speed.
-#[derive(Drop)]
+#[derive(Clone, Copy)]
 pub struct L1Gains {
     pub distance_m: f32,
     pub gain: f32,
 }
 
 // The line through `point` along `direction`, which has any length.
-#[derive(Drop)]
+#[derive(Clone, Copy)]
 pub struct Line {
     pub point: Vec2,
     pub direction: Vec2,
 }
 
 // Where a lateral law steers: along a line, or, within 1e-3 of a loiter's centre, along none.
-#[derive(Drop)]
+#[derive(Clone, Copy)]
 pub enum Aim {
     Line(Line),
     Center,
@@ -47,13 +47,13 @@ pub enum Aim {
 
 // A PI loop with a clamped output; it holds only its integral.
 #[repr(C)]
-#[derive(Drop)]
+#[derive(Clone, Copy)]
 pub struct PiLoop {
     pub integral: f32,
 }
 
 // One step of a PI loop: its output and the loop after it.
-#[derive(Drop)]
+#[derive(Clone, Copy)]
 pub struct PiResult {
     pub output: f32,
     pub pi: PiLoop,

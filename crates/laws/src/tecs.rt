@@ -19,7 +19,7 @@ const THRUST_INTEGRAL_MARGIN: f32 = 0.1;
 
 // Height and airspeed demands, slewed toward the targets.
 #[repr(C)]
-#[derive(Drop)]
+#[derive(Clone, Copy)]
 pub struct Demand {
     pub slewed_height_m: f32,
     pub height_m: f32,
@@ -30,7 +30,7 @@ pub struct Demand {
 // The Rust's three Options (demand, filtered airspeed, steady acceleration) are set and cleared together, so that
 // one flag, `seeded`, says of all three whether they are present; absent, they are +0.
 #[repr(C)]
-#[derive(Drop)]
+#[derive(Clone, Copy)]
 pub struct Tecs {
     pub seeded: u32,
     pub demand: Demand,
@@ -42,7 +42,7 @@ pub struct Tecs {
 }
 
 // The guidance's limits that total energy control flies within.
-#[derive(Drop)]
+#[derive(Clone, Copy)]
 pub struct Limits {
     pub pitch_up_rad: f32,
     pub pitch_down_rad: f32,
@@ -53,7 +53,7 @@ pub struct Limits {
 }
 
 // What one energy step reads: the time step, the targets and the sensors.
-#[derive(Drop)]
+#[derive(Clone, Copy)]
 pub struct Inputs {
     pub dt: f32,
     pub altitude_m: f32,
@@ -65,7 +65,7 @@ pub struct Inputs {
 }
 
 // Energy rates and errors of one step, per unit mass: m²/s² and m²/s³.
-#[derive(Drop)]
+#[derive(Clone, Copy)]
 pub struct Energies {
     pub potential_error: f32,
     pub kinetic_error: f32,
@@ -77,34 +77,34 @@ pub struct Energies {
 }
 
 // The low-passed airspeed, and its rate low-passed.
-#[derive(Drop)]
+#[derive(Clone, Copy)]
 pub struct Filter {
     pub filtered_airspeed_mps: f32,
     pub steady_accel_mps2: f32,
 }
 
 // The energies of one step, with what the step stores of them.
-#[derive(Drop)]
+#[derive(Clone, Copy)]
 pub struct EnergiesResult {
     pub energies: Energies,
     pub demand: Demand,
     pub filter: Filter,
 }
 
-#[derive(Drop)]
+#[derive(Clone, Copy)]
 pub struct ThrustResult {
     pub thrust: f32,
     pub integral: f32,
 }
 
-#[derive(Drop)]
+#[derive(Clone, Copy)]
 pub struct PitchResult {
     pub pitch_rad: f32,
     pub integral_rad: f32,
 }
 
 // One energy step: the energy state after it, pitch and thrust.
-#[derive(Drop)]
+#[derive(Clone, Copy)]
 pub struct TecsResult {
     pub tecs: Tecs,
     pub pitch_rad: f32,

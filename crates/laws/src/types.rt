@@ -8,7 +8,7 @@ use arithmetic::vector::Vec2;
 pub const GRAVITY: f32 = 9.80665;
 
 #[repr(C)]
-#[derive(Drop)]
+#[derive(Clone, Copy)]
 pub struct Vec3 {
     pub x: f32,
     pub y: f32,
@@ -16,28 +16,28 @@ pub struct Vec3 {
 }
 
 // The Rust's Option<f32>.
-#[derive(Drop)]
+#[derive(Clone, Copy)]
 pub enum OptionF32 {
     None,
     Some(f32),
 }
 
 // The Rust's Option<Vec2>.
-#[derive(Drop)]
+#[derive(Clone, Copy)]
 pub enum OptionVec2 {
     None,
     Some(Vec2),
 }
 
 // Sticks: roll and pitch in [-1, 1], throttle in [0, 1].
-#[derive(Drop)]
+#[derive(Clone, Copy)]
 pub struct AttitudeCommand {
     pub throttle: f32,
     pub roll: f32,
     pub pitch: f32,
 }
 
-#[derive(Drop)]
+#[derive(Clone, Copy)]
 pub struct RateCommand {
     pub throttle: f32,
     pub roll_rate: f32,
@@ -46,7 +46,7 @@ pub struct RateCommand {
 }
 
 // A waypoint: north and east in metres, the leg's velocity where there is a leg.
-#[derive(Drop)]
+#[derive(Clone, Copy)]
 pub struct WaypointCommand {
     pub position_m: Vec2,
     pub velocity_mps: OptionVec2,
@@ -54,14 +54,14 @@ pub struct WaypointCommand {
     pub cruise_speed_mps: f32,
 }
 
-#[derive(Drop)]
+#[derive(Clone, Copy)]
 pub struct AbsoluteAttitudeCommand {
     pub roll_rad: f32,
     pub pitch_rad: f32,
     pub thrust: f32,
 }
 
-#[derive(Drop)]
+#[derive(Clone, Copy)]
 pub struct AbsoluteRateCommand {
     pub roll_radps: f32,
     pub pitch_radps: f32,
@@ -69,7 +69,7 @@ pub struct AbsoluteRateCommand {
     pub thrust: f32,
 }
 
-#[derive(Drop)]
+#[derive(Clone, Copy)]
 pub enum ControlInput {
     Attitude(AttitudeCommand),
     Rate(RateCommand),
@@ -79,14 +79,14 @@ pub enum ControlInput {
     AbsoluteRate(AbsoluteRateCommand),
 }
 
-#[derive(Drop)]
+#[derive(Clone, Copy)]
 pub enum FlightRegime {
     Copter,
     Plane,
 }
 
 // What the sensors report: position and velocity as north, east, up.
-#[derive(Drop)]
+#[derive(Clone, Copy)]
 pub struct VehicleState {
     pub position_m: Vec3,
     pub velocity_mps: Vec3,
@@ -95,7 +95,7 @@ pub struct VehicleState {
 }
 
 // Document 01: a plane setpoint or a plane rate setpoint.
-#[derive(Drop)]
+#[derive(Clone, Copy)]
 pub enum Setpoint {
     Plane {
         roll_rad: f32,

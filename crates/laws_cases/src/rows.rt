@@ -5,7 +5,7 @@ use crate::check;
 use case_rows::{Count, bits, number_of, plus, print_count, word_of};
 
 // Whether there was a row, and 1 if its answer was right.
-#[derive(Drop)]
+#[derive(Clone, Copy)]
 struct Tried {
     found: bool,
     right: u32,

@@ -1,9 +1,11 @@
 // Lines of text: a line is a number, words and a list of numbers. Each writer writes at the front of a lent part, keeps
 // the part's other bytes, and answers how many it wrote.
+#![tactic(auto)]
+
 ghost use Rattle.std.specs.Prelude.{◌≡◌, List, ◌≤◌, ◌<◌, ◌+◌, length, take};
 ghost use Rattle.lines.specs.Line.{digit, decimal, hex8, word, words, subject, refusal, values, numbers, text, Puts};
 
-#[derive(Drop)]
+#[derive(Clone, Copy)]
 pub enum Word {
     None,
     Plane,
@@ -20,7 +22,7 @@ pub enum Word {
 }
 
 // `number` 0 is the configuration; `refusal` 0 is none; of `values` the first `count` are printed.
-#[derive(Drop)]
+#[derive(Clone, Copy)]
 pub struct Line {
     pub number: u32,
     pub first: Word,

@@ -9,7 +9,7 @@ use laws::types::Vec3;
 // refusal: 0, 12 or 8; drawn: how many points; stopped: 0, or the step at which the path stopped, counted from 1; reason: that
 // step's refusal, 0 for a number that is not finite.
 #[repr(C)]
-#[derive(Drop)]
+#[derive(Clone, Copy)]
 pub struct Drawn {
     pub refusal: u32,
     pub reason: u32,

@@ -11,7 +11,7 @@ use laws::types::{
 };
 
 // A waypoint call: what `guide_step` takes besides the guidance.
-#[derive(Drop)]
+#[derive(Clone, Copy)]
 pub struct WaypointCall {
     pub dt: f32,
     pub regime: FlightRegime,
@@ -21,7 +21,7 @@ pub struct WaypointCall {
 }
 
 // The guidance, and what the sensors of the model's plane would report.
-#[derive(Drop)]
+#[derive(Clone, Copy)]
 pub struct Model {
     pub guidance: PlaneGuidance,
     pub state: VehicleState,
@@ -29,7 +29,7 @@ pub struct Model {
 
 // What a step gives: the model after it, or, where it stopped, the model as it was and the refusal's number, 0 for a number
 // that is not finite.
-#[derive(Drop)]
+#[derive(Clone, Copy)]
 pub struct Stepped {
     pub moved: bool,
     pub reason: u32,

@@ -31,7 +31,7 @@ const FIRST_UNNAMED: u64 = 1 << 22;
 const ALL_NUMBERS: u64 = 1 << 20;
 
 // A call by its kind, with what the kind uses.
-#[derive(Drop)]
+#[derive(Clone, Copy)]
 pub enum Call {
     Prime,
     Attitude {
@@ -68,14 +68,14 @@ pub enum Call {
 }
 
 // What the reader answers: the call and the place after the record, or the refusal's number.
-#[derive(Drop)]
+#[derive(Clone, Copy)]
 pub enum ReadCall {
     Read { call: Call, next: usize },
     Refused(u8),
 }
 
 // What is left of that without the call: the place after the record, or the refusal's number.
-#[derive(Drop)]
+#[derive(Clone, Copy)]
 pub enum Skipped {
     Next(usize),
     Refused(u8),
@@ -104,7 +104,7 @@ pub fn fields_size(map: u64) -> usize
 }
 
 // A field of one byte that was read or is missing, and where the next one starts.
-#[derive(Drop)]
+#[derive(Clone, Copy)]
 pub struct ByteRead {
     pub value: u64,
     pub rest: Cursor,

@@ -69,7 +69,7 @@ fn has_leg(leg: OptionVec2) -> u8
 
 // What a record has of a call: the two bytes, the numbers of bits 2 to 21, and a 1 for each number that is written
 // whatever its value.
-#[derive(Drop)]
+#[derive(Clone, Copy)]
 pub struct Parts {
     pub kind: u8,
     pub regime: u8,
@@ -260,7 +260,7 @@ fn command_map(regime: u8, v: [u32; 20]) -> u64
 }
 
 // The map of a record and the values of its fields.
-#[derive(Drop)]
+#[derive(Clone, Copy)]
 struct Record {
     map: u64,
     kind: u8,

@@ -16,7 +16,7 @@ use laws::config::PlaneGuidanceConfig;
 const FIRST_UNNAMED: u64 = 1 << 33;
 
 // What the reader answers: the configuration and the place after the record, or the refusal's number.
-#[derive(Drop)]
+#[derive(Clone, Copy)]
 pub enum ReadConfig {
     Read {
         config: PlaneGuidanceConfig,

@@ -1,5 +1,7 @@
 // Reads the records of data/entries, writes what was read, and prints a line for each. stdout has the lines that the oracle
 // gives for the same entries: tools/vectors/records.py makes both files and says what an entry is.
+#![tactic(auto)]
+
 ghost use Rattle.std.specs.Prelude.{◌≤◌};
 
 use fields::Written;
@@ -75,7 +77,7 @@ fn put_config(out: &mut [u8], to: usize, config: PlaneGuidanceConfig) {
 }
 
 // What is tried of an entry: n bytes of s are read from a place, and what they give is written into room bytes of out.
-#[derive(Drop)]
+#[derive(Clone, Copy)]
 struct Entry {
     from: usize,
     to: usize,

@@ -1,4 +1,6 @@
 // Replays a recording into a lent buffer, as the desk program prints it.
+#![tactic(auto)]
+
 pub mod turn;
 
 ghost use Rattle.std.specs.Prelude.{◌≡◌, true, ◌≤◌, ◌+◌, length};

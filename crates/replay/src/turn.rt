@@ -11,7 +11,7 @@ use laws::types::Setpoint;
 use lines::{Line, Word};
 use records::call::Call;
 
-#[derive(Drop)]
+#[derive(Clone, Copy)]
 pub struct CallLine {
     pub line: Line,
     pub guidance: PlaneGuidance,

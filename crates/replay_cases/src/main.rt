@@ -1,5 +1,7 @@
 // Replays the recordings of data/ and compares each text with the oracle's (tools/vectors/replay.py makes both files).
 // Each is replayed into a buffer with room to spare, into one that its text just fills, and into one that is a byte short.
+#![tactic(auto)]
+
 ghost use Rattle.std.specs.Prelude.{◌≡◌, ◌≤◌, ◌+◌, length};
 ghost use Rattle.replay.specs.Sizes.{decisive, text_room};
 

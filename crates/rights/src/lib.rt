@@ -1,9 +1,11 @@
 // Who may do what (document 02, K9): the one place that judges a caller's right.
+#![tactic(auto)]
+
 ghost use Rattle.std.specs.Prelude.{◌≡◌};
 ghost use Rattle.rights.specs.Rights as spec;
 
 // What is done to a guidance or its route; Other: what no call is.
-#[derive(Drop)]
+#[derive(Clone, Copy)]
 pub enum Deed {
     New,
     Guide,

@@ -1,6 +1,8 @@
 // The route record: a 4-byte map, bits 0 to 30, whose bit 31 says that a second 4-byte map follows it, then 16 bytes for each standing
 // point: north, east, altitude, cruise speed. A route's map is the two as one, 62 bits; its numbers stand in a buffer that is lent,
 // four a point, in bit order.
+#![tactic(auto)]
+
 ghost use Rattle.std.specs.Prelude.{◌≡◌, ◌++◌, ◌≤◌, ◌+◌, ◌*◌, length, drop};
 ghost use Rattle.std.specs.Float.{binary32};
 ghost use Rattle.std.specs.Float.Ieee.{of_bits};
@@ -19,7 +21,7 @@ const SECOND: u64 = 1 << 31;
 const UNNAMED: u64 = 1 << 62;
 
 // What loading answers: the route's map and the place after the record, or after its maps; or the refusal's number.
-#[derive(Drop)]
+#[derive(Clone, Copy)]
 pub enum Loaded {
     Read { map: u64, next: usize },
     Refused(u8),

@@ -1,4 +1,6 @@
 // A route flown: each call moves on by at most one point, then flies to the point that is reached.
+#![tactic(auto)]
+
 ghost use Rattle.std.specs.Prelude.{◌≡◌, ◌≤◌, ◌+◌, ◌*◌, length};
 ghost use Rattle.fields.specs.Fields.{ones};
 ghost use Rattle.routes.specs.Route as spec;
@@ -12,7 +14,7 @@ use laws::types::{
 use route_records::map_refusal;
 
 // A point of a route: metres north, east and up, and metres a second.
-#[derive(Drop)]
+#[derive(Clone, Copy)]
 pub struct Point {
     pub north_m: f32,
     pub east_m: f32,
@@ -21,14 +23,14 @@ pub struct Point {
 }
 
 // A route's map, and the number of the point that is flown to. Its points' numbers are lent, four a point.
-#[derive(Drop)]
+#[derive(Clone, Copy)]
 pub struct Route {
     pub map: u64,
     pub number: u32,
 }
 
 // What comes with a route call.
-#[derive(Drop)]
+#[derive(Clone, Copy)]
 pub struct RouteCall {
     pub dt: f32,
     pub regime: FlightRegime,
@@ -37,7 +39,7 @@ pub struct RouteCall {
 }
 
 // The guidance and the route's number after a call, and the call's answer.
-#[derive(Drop)]
+#[derive(Clone, Copy)]
 pub struct Flown {
     pub guidance: PlaneGuidance,
     pub number: u32,
