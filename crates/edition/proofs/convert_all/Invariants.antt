@@ -1,0 +1,13 @@
+-- `convert_all` meets its contract. Assumes nothing.
+use Prim.Native.Nat.{◌-◌}
+use native.Mathlib.Omega.{arith}
+use borrow.Author.Rules.{rules}
+use lib.ListN.{length}
+use Rattle.edition.proofs.Law.{Converting, same_long, converting_starts, converting_ends, converting_stops, converting_turns}
+use Rattle.edition.proofs.convert_all.Given as goal
+
+abbrev pub invariant-loop-at : goal.invariant-loop-at
+invariant-loop-at l = Converting l.s l.wanted l.initial.out l.out l.at l.to l.n
+
+abbrev pub decreases-loop-at : goal.decreases-loop-at
+decreases-loop-at l = length l.s - l.at

@@ -1,0 +1,13 @@
+use native.Mathlib.Omega.{arith}
+use Rattle.editions.proofs.Writing.{record_turned}
+use borrow.Author.Rules.{rules}
+use Rattle.editions.proofs.turn_record.Goals as goal
+
+pub turn-requires : goal.turn-requires
+turn-requires c = rw c.read_number-map.ensures.0 c.requires
+
+pub returns : goal.returns
+returns c =
+    let turned = c.before.before.before.before.before.before in
+    let read = turned.before.before in
+    record_turned _ _ _ _ (omega (arith, read.requires)) read.read_number-map.ensures.0 turned.turn.ensures c.write_number.ensures

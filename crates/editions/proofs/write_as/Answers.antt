@@ -1,0 +1,10 @@
+use Rattle.editions.specs.Edition.{record_as}
+use borrow.Author.Rules.{rules}
+use Rattle.editions.proofs.write_as.Goals as goal
+
+pub returns-in-First : goal.returns-in-First
+unfolding record_as
+returns-in-First c = rw c.enum_told-1.given.1 c.write_call.ensures
+
+pub returns-in-Second : goal.returns-in-Second
+returns-in-Second c = rw c.enum_told-in-Second-1.given.1 c.write_second.ensures

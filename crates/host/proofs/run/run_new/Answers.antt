@@ -1,0 +1,12 @@
+use borrow.Author.Rules.{rules}
+use Rattle.host.specs.Run.{run_new}
+use Rattle.host.proofs.run.run_new.Goals as goal
+
+pub returns-in-Refused : goal.returns-in-Refused
+unfolding run_new
+returns-in-Refused c = rw (c.bare.ensures, ← c.read_config-read.ensures, c.read-1.given.1)
+
+pub returns-in-Read : goal.returns-in-Read
+unfolding run_new
+returns-in-Read c =
+    rw (c.made.ensures, c.new.ensures.is, ← c.read_config-read.ensures, c.read-in-Read-1.given.1)

@@ -1,0 +1,14 @@
+use borrow.Author.Tests.{lt-ltb, le-ltb}
+use Rattle.host_routes.specs.Route.{run_route}
+use borrow.Author.Rules.{rules}
+use Rattle.host_routes.proofs.route.run_route.Goals as goal
+
+pub returns-then-k-gt1 : goal.returns-then-k-gt1
+unfolding run_route
+returns-then-k-gt1 c = rw (c.bare.ensures, lt-ltb _ _ c.if-k-gt1.true)
+
+pub returns : goal.returns
+unfolding run_route
+returns c =
+    let f = c.before.before in
+    rw (c.of_answer.ensures, f.fly-done.ensures, f.route_call_of.ensures, f.route_of.ensures, le-ltb _ _ f.if-k-gt1.false)

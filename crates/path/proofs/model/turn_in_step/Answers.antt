@@ -1,0 +1,17 @@
+use mathlib.Core.Path.{◌≡◌, refl}
+use mathlib.Core.Bool.{true}
+use lib.Ieee.{le, of_bits}
+use Rattle.arithmetic.specs.Constants.{n0, frac_pi2}
+use Rattle.laws.proofs.Ordered.{sides_ordered}
+use Rattle.path.specs.Model.{turn_in_step}
+use Rattle.path.proofs.model.turn_in_step.Goals as goal
+
+above : le n0 frac_pi2 ≡ true
+unfolding of_bits le
+above = refl
+
+pub returns : goal.returns
+unfolding turn_in_step
+returns c =
+    let c1 = c.before in
+    rw (c.clamp_ordered.ensures, c1.turn_rate-rate.ensures)

@@ -1,0 +1,15 @@
+-- `config::config_map` meets its contract. Assumes nothing.
+use mathlib.Core.Path.{◌≡◌, ◌∙◌}
+use lib.ListN.{length}
+use borrow.Author.Rules.{rules}
+use Rattle.records.proofs.ConfigLaw.{fields_are}
+use Rattle.records.proofs.config.config_map.Goals as goal
+use Rattle.records.proofs.config.config_map.Goals.{Start}
+
+long : (c : Start) → length c.args.t1 ≡ 33
+long c = search rules
+
+pub returns : goal.returns
+returns c =
+    let l = long c.before.before.before.before in
+    (c.changed.ensures.0 ∙ rw (l, c.default_bits-missing.ensures, fields_are), rw l at c.changed.ensures.1)

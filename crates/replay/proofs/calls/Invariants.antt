@@ -1,0 +1,13 @@
+use native.Mathlib.Omega.{arith}
+use borrow.Author.Rules.{rules}
+use mathlib.Core.Path.{sym, ◌∙◌}
+use Prim.Native.Nat.{◌-◌}
+use Rattle.replay.proofs.PrintLaw.{printed_all}
+use Rattle.replay.proofs.CallsLaw.{Calling, call_starts, call_over, call_turn, left_bad, left_nine, stop_asks, stop_ends, turn_asks}
+use Rattle.replay.proofs.calls.Given as goal
+
+abbrev pub invariant-loop-n : goal.invariant-loop-n
+invariant-loop-n l = Calling l.s l.from l.initial.g l.write l.initial.out l.out l.g l.at l.to l.n
+
+abbrev pub decreases-loop-n : goal.decreases-loop-n
+decreases-loop-n l = 4097 - l.n
