@@ -5,4 +5,4 @@ use Rattle.fields.specs.Numbers.{bits_of}
 use Rattle.config_numbers.proofs.bits_of.Goals as goal
 
 pub returns : goal.returns
-returns c = c.bits.ensures ∙ ap bits_of c.before.before.before.before.Numbers-of.ensures
+returns c = c.bits.ensures ∙ ap bits_of c.before.before.before.before.numbers_of.ensures
