@@ -1,6 +1,6 @@
 -- `changed` meets its contract: m is the map of fields i and up. Assumes nothing.
 use native.Mathlib.Omega.{arith}
-use Rattle.fields.proofs.FieldLaw.{Changing, changed_starts, changed_below, changed_fits, changed_turn, changed_done}
+use Rattle.fields.proofs.FieldLaw.{changed_starts, changed_below, changed_fits, changed_turn, changed_done}
 use Rattle.fields.proofs.changed.Goals as goal
 
 pub loop-i-init : goal.loop-i-init

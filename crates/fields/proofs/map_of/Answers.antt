@@ -1,6 +1,6 @@
 -- `map_of` meets its contract: m is the map of fields i and up. Assumes nothing.
 use native.Mathlib.Omega.{arith}
-use Rattle.fields.proofs.FieldLaw.{Mapping, map_starts, map_fits, map_turn, map_done}
+use Rattle.fields.proofs.FieldLaw.{map_starts, map_fits, map_turn, map_done}
 use Rattle.fields.proofs.map_of.Goals as goal
 
 pub loop-i-init : goal.loop-i-init

@@ -1,8 +1,6 @@
 -- `write_values` meets its contract: fields 0 to i are written. Assumes nothing.
-use Prim.Native.Nat.{◌-◌}
 use native.Mathlib.Omega.{arith}
-use lib.ListN.{length}
-use Rattle.fields.proofs.FieldLaw.{Writing, rest_back, write_none, write_starts, write_room, write_part, write_turn, write_skips, write_done, write_place}
+use Rattle.fields.proofs.FieldLaw.{rest_back, write_none, write_starts, write_room, write_part, write_turn, write_skips, write_done, write_place}
 use Rattle.fields.proofs.write_values.Goals as goal
 
 pub returns-then-map-eq0 : goal.returns-then-map-eq0
@@ -30,7 +28,7 @@ pub bounds-v-here : goal.bounds-v-here
 bounds-v-here c = omega arith
 
 pub overflow_cast-v : goal.overflow_cast-v
-overflow_cast-v c = omega (arith, c.shared_slice_known-then-bit-eq1-1.given c.loop-i.i)
+overflow_cast-v c = omega (arith, c.type_inv.v c.loop-i.i)
 
 pub write_number-requires : goal.write_number-requires
 write_number-requires c = write_part c.loop-i.invariant c.loop-i-test.true c.if-bit-eq1.true
@@ -48,9 +46,9 @@ loop-i-preserved-then-bit-eq1 c =
     let b = c.if-bit-eq1.true in
     rw
     (rest_back c.loop-i.part
-    c.write_number.new.0 c.loop-i.at
+    c.write_number.new.part c.loop-i.at
     (omega (arith, write_room w t b)))
-    (write_turn w t b c.write_number.new.0 c.write_number.ensures)
+    (write_turn w t b c.write_number.new.part c.write_number.ensures)
 
 pub loop-i-smaller : goal.loop-i-smaller
 loop-i-smaller c = omega arith

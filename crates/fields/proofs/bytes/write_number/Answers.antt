@@ -1,7 +1,6 @@
 -- `bytes::write_number` meets its contract: bytes 0 to i are written, v is what is left of the number. Assumes nothing.
-use Prim.Native.Nat.{◌-◌}
 use native.Mathlib.Omega.{arith}
-use Rattle.fields.proofs.NumberLaw.{Writing, write_starts, write_turn, write_done}
+use Rattle.fields.proofs.NumberLaw.{write_starts, write_turn, write_done}
 use Rattle.fields.proofs.bytes.write_number.Goals as goal
 
 pub loop-i-init : goal.loop-i-init

@@ -1,10 +1,8 @@
 -- `numbers::bits` meets its contract. Assumes nothing.
-use Prim.Native.Nat.{◌-◌}
 use native.Mathlib.Omega.{arith}
-use lib.ListN.{length}
-use lib.Ieee.{nan, binary32, toBits}
+use lib.Ieee.{nan, binary32, to_bits as bits_at}
 use Rattle.fields.specs.Numbers.{bits_of}
-use Rattle.fields.proofs.MapLaw.{Mapped, starts, turn, done}
+use Rattle.fields.proofs.MapLaw.{starts, turn, done}
 use Rattle.fields.proofs.numbers.bits.Goals as goal
 
 pub loop-i-init : goal.loop-i-init
@@ -29,11 +27,11 @@ pub loop-i-smaller : goal.loop-i-smaller
 loop-i-smaller c = omega arith
 
 pub loop-i-preserved : goal.loop-i-preserved
-loop-i-preserved c = turn (toBits binary32) nan c.loop-i.invariant c.loop-i-test.true c.to_bits.result c.to_bits.ensures
+loop-i-preserved c = turn (bits_at binary32) nan c.loop-i.invariant c.loop-i-test.true c.to_bits.result c.to_bits.ensures
 
 pub shape_of-out : goal.shape_of-out
 shape_of-out c = omega (arith, c.loop-i.invariant.long, c.requires)
 
 pub returns : goal.returns
 unfolding bits_of
-returns c = done (toBits binary32) nan c.loop-i.invariant c.loop-i-test.false
+returns c = done (bits_at binary32) nan c.loop-i.invariant c.loop-i-test.false

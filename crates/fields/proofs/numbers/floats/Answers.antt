@@ -1,10 +1,8 @@
 -- `numbers::floats` meets its contract. Assumes nothing.
-use Prim.Native.Nat.{◌-◌}
 use native.Mathlib.Omega.{arith}
-use lib.ListN.{length}
 use lib.Ieee.{binary32, of_bits}
 use Rattle.fields.specs.Numbers.{floats_of}
-use Rattle.fields.proofs.MapLaw.{Mapped, starts, turn, done}
+use Rattle.fields.proofs.MapLaw.{starts, turn, done}
 use Rattle.fields.proofs.numbers.floats.Goals as goal
 
 pub loop-i-init : goal.loop-i-init

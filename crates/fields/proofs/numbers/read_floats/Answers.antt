@@ -1,8 +1,7 @@
 -- `numbers::read_floats` meets its contract: f32s 0 to i are read. Assumes nothing.
-use Prim.Native.Nat.{◌-◌}
 use native.Mathlib.Omega.{arith}
-use lib.ListN.{length, length-set}
-use Rattle.fields.proofs.FloatLaw.{Floating, float_none, float_starts, float_room, float_part, float_turn, float_keeps, float_done}
+use lib.ListN.{length-set}
+use Rattle.fields.proofs.FloatLaw.{float_none, float_starts, float_room, float_part, float_turn, float_keeps, float_done}
 use Rattle.fields.proofs.numbers.read_floats.Goals as goal
 
 pub returns-then-map-eq0 : goal.returns-then-map-eq0
