@@ -1,11 +1,11 @@
 -- `put_line` meets its contract: what stands after each piece. Assumes nothing.
-use mathlib.Core.List.{List, ◌∷◌, [], ◌++◌}
-use Prim.Native.Nat.{ℕ, ◌+◌, ◌-◌, ◌<◌, ◌≤◌}
+use mathlib.Core.List.{List, ◌++◌}
+use Prim.Native.Nat.{ℕ, ◌+◌, ◌-◌, ◌≤◌}
 use native.Mathlib.Omega.{arith}
 use borrow.Rule.Slice.PartMut.{put_mid}
 use lib.ListN.{length, take, drop}
 use Rattle.lines.specs.declared.Line.{Line}
-use Rattle.lines.specs.Line.{subject, words, numbers, text, Puts}
+use Rattle.lines.specs.Line.{subject, words, text, Puts}
 use Rattle.lines.proofs.PutLaw.{Wrote, wrote_first, wrote_rest, wrote_byte, room_after}
 use Rattle.lines.proofs.TextLaw.{text_long, line_put}
 use Rattle.lines.proofs.put_line.Goals as goal

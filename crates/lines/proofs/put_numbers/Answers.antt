@@ -16,31 +16,11 @@ wrote n vs h e = wrote_first e (omega (arith, numbers_long n vs))
 pub put_refusal-at-requires : goal.put_refusal-at-requires
 put_refusal-at-requires c = omega (arith, numbers_long c.args.refused (take c.args.count c.args.v))
 
-pub slice_bounds-put_values-count : goal.slice_bounds-put_values-count
-slice_bounds-put_values-count c =
-    let vs = take c.args.count c.args.v in
-    omega (arith, wrote c.args.refused vs c.requires.1 c.put_refusal-at.ensures, numbers_long c.args.refused vs)
-
-pub slice_bounds-put_values-start : goal.slice_bounds-put_values-start
-slice_bounds-put_values-start c =
-    let vs = take c.args.count c.args.v in
-    omega (arith, wrote c.args.refused vs c.requires.1 c.put_refusal-at.ensures, numbers_long c.args.refused vs)
-
 pub put_values-requires : goal.put_values-requires
 put_values-requires c =
     let vs = take c.args.count c.args.v in
     let w = wrote c.args.refused vs c.requires.1 c.put_refusal-at.ensures in
     (c.requires.0, room_after w _ (omega (arith, w, numbers_long c.args.refused vs)))
-
-pub overflow_add-result : goal.overflow_add-result
-overflow_add-result c =
-    let vs = take c.args.count c.args.v in
-    omega (
-      arith,
-      wrote c.args.refused vs c.requires.1 c.put_refusal-at.ensures,
-      c.put_values.ensures.size,
-      numbers_long c.args.refused vs,
-    )
 
 pub returns : goal.returns
 unfolding numbers

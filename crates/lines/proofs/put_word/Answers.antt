@@ -1,5 +1,4 @@
 -- `put_word` meets its contract: each word by its own arm. Assumes nothing.
-use borrow.Author.Rules.{rules}
 use Rattle.lines.specs.Line.{word}
 use Rattle.lines.proofs.PutLaw.{puts_none}
 use Rattle.lines.proofs.TextLaw.{word_fits, word_puts}

@@ -17,22 +17,10 @@ wrote first second h e = wrote_first e (omega (arith, words_long first second))
 pub put_word-at-requires : goal.put_word-at-requires
 put_word-at-requires c = omega (arith, words_long c.args.first c.args.second)
 
-pub slice_bounds-put_word-count : goal.slice_bounds-put_word-count
-slice_bounds-put_word-count c =
-    omega (arith, wrote c.args.first c.args.second c.requires c.put_word-at.ensures, words_long c.args.first c.args.second)
-
-pub slice_bounds-put_word-start : goal.slice_bounds-put_word-start
-slice_bounds-put_word-start c =
-    omega (arith, wrote c.args.first c.args.second c.requires c.put_word-at.ensures, words_long c.args.first c.args.second)
-
 pub put_word-requires : goal.put_word-requires
 put_word-requires c =
     let w = wrote c.args.first c.args.second c.requires c.put_word-at.ensures in
     room_after w _ (omega (arith, w, words_long c.args.first c.args.second))
-
-pub overflow_add-result : goal.overflow_add-result
-overflow_add-result c =
-    omega (arith, wrote c.args.first c.args.second c.requires c.put_word-at.ensures, c.put_word.ensures.size, words_long c.args.first c.args.second)
 
 pub returns : goal.returns
 unfolding words
