@@ -39,4 +39,4 @@ pub returns : goal.returns
 returns c =
     loads _ _ _ _ _ c.numbers_of.ensures.0 (omega (arith, c.if-s-from-2.false, c.if-s-from.false)) _
     c.all_finite.ensures (not-false _ c.if-not-all_finite.false) c.if-out-n.false
-    c.read_numbers.new.1.0 c.read_numbers.ensures
+    c.read_numbers.new.out c.read_numbers.ensures

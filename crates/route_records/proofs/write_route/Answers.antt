@@ -39,4 +39,4 @@ pub returns : goal.returns
 returns c =
     writes _ _ _ _ _ c.map_refusal-refusal.ensures c.if-refusal-gt0.false _ c.numbers_of.ensures.0
     c.if-numbers-n.false _ c.maps_size-maps.ensures.0 (omega (arith, c.if-out-at-2.false, c.if-out-at.false))
-    c.write_record.new.0 c.write_record.ensures
+    c.write_record.new.part c.write_record.ensures
