@@ -2,7 +2,6 @@
 use native.Mathlib.Omega.{arith}
 use mathlib.Core.Path.{sym}
 use Rattle.fields.proofs.FieldLaw.{put_after}
-use borrow.Author.Rules.{rules}
 use Rattle.route_records.specs.Record.{maps_bytes}
 use Rattle.route_records.proofs.write_record.Goals as goal
 
