@@ -1,4 +1,3 @@
-use borrow.Author.Rules.{rules}
 use Rattle.laws.specs.Code.Steering.{aim_of}
 use Rattle.laws.proofs.navigation.aim_of.Goals as goal
 

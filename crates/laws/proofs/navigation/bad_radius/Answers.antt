@@ -1,4 +1,3 @@
-use borrow.Author.Rules.{rules}
 use Rattle.laws.specs.Code.Steering.{bad_radius}
 use Rattle.laws.proofs.navigation.bad_radius.Goals as goal
 

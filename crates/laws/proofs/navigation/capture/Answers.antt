@@ -24,3 +24,6 @@ pub returns : goal.returns
 unfolding capture clamp
 returns c =
     rw (c.clamp_ordered.ensures, c.arcsine.ensures, c.if-ratio.false, c.if-ratio-2.false)
+
+pub clamp_ordered-requires : goal.clamp_ordered-requires
+clamp_ordered-requires c = sides_ordered frac_pi4 above

@@ -1,4 +1,3 @@
-use borrow.Author.Rules.{rules}
 use Rattle.laws.specs.Code.Steering.{circle}
 use Rattle.laws.proofs.navigation.circle.Goals as goal
 

@@ -1,4 +1,3 @@
-use borrow.Author.Rules.{rules}
 use Rattle.laws.specs.Navigation.{finite_leg}
 use Rattle.laws.proofs.navigation.finite_leg.Goals as goal
 

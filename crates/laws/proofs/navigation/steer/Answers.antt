@@ -1,4 +1,3 @@
-use borrow.Author.Rules.{rules}
 use Rattle.laws.specs.Code.Steering.{steer}
 use Rattle.laws.proofs.navigation.steer.Goals as goal
 

@@ -1,4 +1,3 @@
-use borrow.Author.Rules.{rules}
 use Rattle.laws.specs.Code.Steering.{track_to}
 use Rattle.laws.proofs.navigation.track_to.Goals as goal
 

@@ -1,4 +1,3 @@
-use borrow.Author.Rules.{rules}
 use Rattle.laws.specs.Code.Steering.{with_centripetal}
 use Rattle.laws.proofs.navigation.with_centripetal.Goals as goal
 

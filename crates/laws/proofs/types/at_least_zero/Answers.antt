@@ -1,4 +1,3 @@
-use borrow.Author.Rules.{rules}
 use Rattle.laws.specs.Types.{at_least_zero}
 use Rattle.laws.proofs.types.at_least_zero.Goals as goal
 

@@ -14,3 +14,6 @@ pub returns : goal.returns
 unfolding turn_in_step
 returns c =
     rw (c.clamp_ordered.ensures, c.turn_rate-rate.ensures)
+
+pub clamp_ordered-requires : goal.clamp_ordered-requires
+clamp_ordered-requires c = sides_ordered frac_pi2 above
