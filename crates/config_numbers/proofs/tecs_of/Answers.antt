@@ -1,5 +1,4 @@
 -- `tecs_of` meets its contract. Assumes nothing.
-use lib.Dec.{lit<}
 use borrow.Author.Rules.{rules}
 use Rattle.config_numbers.specs.Numbers.{config_of}
 use Rattle.config_numbers.proofs.tecs_of.Goals as goal
