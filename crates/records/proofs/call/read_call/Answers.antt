@@ -1,8 +1,6 @@
 -- `call::read_call` meets its contract: a lemma for each outcome. Assumes nothing.
 use mathlib.Core.Path.{refl}
 use native.Mathlib.Omega.{arith}
-use borrow.Author.Tests.{not-true, not-false}
-use borrow.Author.Rules.{rules}
 use Rattle.records.proofs.CallLaw.{cut, incomplete, size_is, short, regime_room, numbers_room, kind_above, regime_above, whole}
 use Rattle.records.proofs.call.read_call.Goals as goal
 
@@ -73,15 +71,6 @@ read_numbers-v-requires c =
     c.fields_size-size.ensures.0
     (omega (arith, c.if-s-at-2.false)) _ _ c.read_byte-kind.ensures
     c.read_byte-regime.ensures
-
-pub overflow_add-result : goal.overflow_add-result
-overflow_add-result c =
-    omega (
-      arith,
-      c.if-s-at-2.false,
-      c.if-s-at.false,
-      c.well_formed,
-    )
 
 pub returns : goal.returns
 returns c =

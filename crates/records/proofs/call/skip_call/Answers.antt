@@ -1,8 +1,6 @@
 -- `call::skip_call` meets its contract: the reader's lemma for each outcome. Assumes nothing.
 use mathlib.Core.Path.{refl, ap}
 use native.Mathlib.Omega.{arith}
-use borrow.Author.Tests.{not-true, not-false}
-use borrow.Author.Rules.{rules}
 use Rattle.records.specs.Call.{skipped}
 use Rattle.records.proofs.CallLaw.{cut, incomplete, size_is, short, regime_room, kind_above, regime_above, whole}
 use Rattle.records.proofs.call.skip_call.Goals as goal
@@ -63,15 +61,6 @@ returns-then-second-gt1 c =
     c.fields_size-bytes.ensures.0
     (omega (arith, c.if-s-at-2.false)) _ _ c.read_byte-first.ensures
     c.read_byte-second.ensures c.if-first-gt6.false c.if-second-gt1.true)
-
-pub overflow_add-result : goal.overflow_add-result
-overflow_add-result c =
-    omega (
-      arith,
-      c.if-s-at-2.false,
-      c.if-s-at.false,
-      c.well_formed,
-    )
 
 pub returns : goal.returns
 returns c =

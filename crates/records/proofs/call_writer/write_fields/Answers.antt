@@ -1,6 +1,5 @@
 -- `call::write_fields` meets its contract. Assumes nothing.
 use native.Mathlib.Omega.{arith}
-use borrow.Author.Rules.{rules}
 use Rattle.records.proofs.CallLaw.{size_is, fields_written}
 use Rattle.records.proofs.call_writer.write_fields.Goals as goal
 
