@@ -1,5 +1,3 @@
-use mathlib.Core.Path.{sym}
-use borrow.Author.Rules.{rules}
 use Rattle.claims.specs.Calls.{perform}
 use Rattle.calls.proofs.perform.Goals as goal
 

@@ -1,6 +1,5 @@
 -- `config::write_fields` meets its contract: a map, and then the fields after it. Assumes nothing.
 use native.Mathlib.Omega.{arith}
-use borrow.Author.Rules.{rules}
 use Rattle.fields.specs.Bytes.{bytes_of}
 use Rattle.fields.proofs.NumberLaw.{bytes_long}
 use Rattle.fields.proofs.FieldLaw.{put_after}
