@@ -1,4 +1,3 @@
-use borrow.Author.Rules.{rules}
 use Rattle.host_routes.specs.Route.{load_by, load_buffer_by}
 use Rattle.host_routes.proofs.route.nuthkolla_load_route.Goals as goal
 

@@ -1,4 +1,3 @@
-use borrow.Author.Rules.{rules}
 use Rattle.host_routes.specs.Route.{write_by, write_buffer_by}
 use Rattle.host_routes.proofs.route.nuthkolla_write_route.Goals as goal
 
