@@ -7,10 +7,9 @@ ghost use Rattle.std.specs.Prelude.{◌≤◌, IfOk};
 use arithmetic::vector::{Normalised, Vec2};
 use arithmetic::{order, root, trigonometry, vector};
 use case_rows::{Count, bits, number_of, plus, print_count, read_full, word_of};
-use std::fs;
-use std::io;
 use std::io::Read;
 use std::rt::Files;
+use std::{fs, io};
 
 // A row's results: a number's bits or a truth, and the parts of a normalised vector after it.
 #[derive(Clone, Copy)]
@@ -135,11 +134,7 @@ fn try_rows<F: Read>(file: &mut F) -> io::Result<Count> {
 }
 
 // Tries the rows of one file, prints the count under the file's name, and adds it to the count before.
-fn try_group<R: Files + Print + Eprint>(
-    rt: &R,
-    name: &str,
-    before: Count,
-) -> io::Result<Count> {
+fn try_group<R: Files + Print + Eprint>(rt: &R, name: &str, before: Count) -> io::Result<Count> {
     let mut file = match fs::open(rt, name) {
         Ok(file) => file,
         Err(e) => {

@@ -12,10 +12,9 @@ use case_rows::{Count, plus, print_count, read_full};
 use guidance::plane::{Former, PlaneGuidance};
 use laws::navigation::PiLoop;
 use laws::{config, tecs};
-use std::fs;
-use std::io;
 use std::io::Read;
 use std::rt::Files;
+use std::{fs, io};
 
 // Whether there was a row, 1 if all was right, and the guidance for the next row.
 #[derive(Clone, Copy)]
@@ -77,11 +76,7 @@ fn try_rows<F: Read>(file: &mut F) -> io::Result<Count> {
 }
 
 // Tries the rows of one file, prints the count under the file's name, and adds it to the count before.
-fn try_group<R: Files + Print + Eprint>(
-    rt: &R,
-    name: &str,
-    before: Count,
-) -> io::Result<Count> {
+fn try_group<R: Files + Print + Eprint>(rt: &R, name: &str, before: Count) -> io::Result<Count> {
     let mut file = match fs::open(rt, name) {
         Ok(file) => file,
         Err(e) => {

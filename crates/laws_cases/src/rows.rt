@@ -3,10 +3,9 @@ ghost use Rattle.std.specs.Prelude.{◌≤◌, IfOk};
 
 use crate::check;
 use case_rows::{Count, bits, number_of, plus, print_count, read_full, word_of};
-use std::fs;
-use std::io;
 use std::io::Read;
 use std::rt::Files;
+use std::{fs, io};
 
 // Whether there was a row, and 1 if its answer was right.
 #[derive(Clone, Copy)]
