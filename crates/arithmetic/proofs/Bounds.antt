@@ -1,14 +1,13 @@
 -- The order of floats, as the limits need it: a clamped number lies between its ends. Each fact is about the tests `lt` and `le` of lib.Ieee.
 use mathlib.Core.Path.{◌≡◌, refl, sym, ap, ◌∙◌, subst}
 use mathlib.Core.Bool.{Bool, true, false, cond, not, ◌&&◌, ◌||◌, true≢false, false≢true}
-use Prim.Native.Nat.{ℕ, zero, suc, ◌+◌, ◌*◌, ◌<◌, ◌≤◌}
+use Prim.Native.Nat.{ℕ, zero, suc, ◌+◌, ◌*◌, ◌<◌}
 use native.Mathlib.Nat.{zero-mul, mul-one, mul-pos}
 use native.Mathlib.Omega.{arith}
-use lib.Dec.{T, ltb, eqb}
+use lib.Dec.{ltb, eqb}
 use lib.IntN.{ℤ, pos}
-use borrow.Author.Tests.{ltb-true, ltb-false, eqb-true, lt-ltb, le-ltb, eq-eqb, ne_eqb}
-use lib.Ieee as Ieee
-use lib.Ieee.{Float, nan, inf, fin, binary32, of_bits, up, down, lt, le, eq, ne, neg, is_nan}
+use borrow.Author.Tests.{ltb-true, ltb-false, eqb-true, le-ltb, eq-eqb, ne_eqb}
+use lib.Ieee.{Float, nan, inf, fin, of_bits, up, down, lt, le, eq, ne, neg, is_nan}
 use lib.Ieee.Fits.{up_pos}
 use Rattle.arithmetic.specs.Constants.{n0}
 use Rattle.arithmetic.specs.Order.{clamp, least, greatest, finite}

@@ -1,6 +1,6 @@
 -- A value that binary32 holds is not changed by rounding; so the remainder of a smaller number is that number. Assumes nothing.
 use mathlib.Core.Path.{◌≡◌, refl, sym, ap, ◌∙◌, subst}
-use mathlib.Core.Bool.{Bool, true, false, cond, ◌&&◌}
+use mathlib.Core.Bool.{Bool, true, false, ◌&&◌}
 use Prim.Native.Nat.{ℕ, zero, suc, ◌+◌, ◌-◌, ◌*◌, ◌%◌, ◌^◌, ◌≤◌, ◌<◌}
 use native.Mathlib.Nat.{le_trans, le_of_suc-le-suc, lt_of_lt_of_le, lt_of_not-le, lt_irrefl, mul-one, mul_assoc, mul_comm, mul_left_comm}
 use native.Mathlib.Nat.{mul_right_comm, mul-pos, zero-mul, mul-lt-mul_of_pos_right, lt_of_mul-lt-mul_right, mod-eq_of_lt}
@@ -9,10 +9,9 @@ use lib.Dec.{T, leb, ltb, eqb, leb→le, ltb→lt}
 use lib.IntN.{ℤ, pos, negsuc}
 use lib.Pow.{pow-add, pow_pos, pow_mono, pow-lt}
 use borrow.Author.Tests.{ltb-true}
-use lib.Ieee as Ieee
 use lib.Ieee.{Float, nan, inf, fin, binary32, up, down, fits, lt, round, of_bits, rem}
 use lib.Ieee.Fits.{and_l, and_r, down_pos, round-fits}
-use lib.Ieee.Exact.{HasValue, round_exact}
+use lib.Ieee.Exact.{round_exact}
 use lib.Ieee.Scale.{round_same}
 use lib.Ieee.Digits.{back}
 use Rattle.arithmetic.specs.Constants.{tau, ◌%ᶠ◌}

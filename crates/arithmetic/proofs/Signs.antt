@@ -7,7 +7,7 @@ use native.Mathlib.Omega.{arith}
 use lib.Dec.{T, leb, leb→le, nleb→lt}
 use lib.IntN.{ℤ}
 use borrow.Author.Tests.{le-leb, lt-leb}
-use lib.Ieee.{Float, nan, inf, fin, Format, binary32, top, fits, is_nan, neg, of_bits, to_bits}
+use lib.Ieee.{Float, nan, inf, fin, binary32, fits, is_nan, neg, of_bits, to_bits}
 use lib.Ieee.Bits.{of_bits-to_bits, to_bits-lt}
 use Rattle.arithmetic.specs.Order.{size, negative}
 use Rattle.arithmetic.proofs.Bounds.{never'}

@@ -1,21 +1,20 @@
 -- A rounded sum grows with each of its terms, and the order of floats is transitive.
 use mathlib.Core.Path.{◌≡◌, refl, sym, ap, ◌∙◌, subst}
-use mathlib.Core.Bool.{Bool, true, false, cond, not, ◌&&◌, ◌||◌, beq}
-use Prim.Native.Nat.{ℕ, zero, suc, ◌+◌, ◌-◌, ◌*◌, ◌^◌, ◌/◌, ◌<◌, ◌≤◌}
-use native.Mathlib.Nat.{zero-mul, mul-one, mul-pos, mul_assoc, mul_comm, mul_left_comm, add-mul, mul-add, mul-le-mul_right, le_of_mul-le-mul_right}
+use mathlib.Core.Bool.{Bool, true, false, cond, not, ◌&&◌, ◌||◌}
+use Prim.Native.Nat.{ℕ, zero, suc, ◌+◌, ◌-◌, ◌*◌, ◌^◌, ◌<◌, ◌≤◌}
+use native.Mathlib.Nat.{zero-mul, mul-pos, mul_assoc, mul_comm, mul_left_comm, add-mul, mul-le-mul_right, le_of_mul-le-mul_right}
 use native.Mathlib.Omega.{arith}
 use lib.Dec.{T, ltb, eqb}
-use lib.IntN.{ℤ, pos}
-use borrow.Author.Tests.{ltb-true, ltb-false, eqb-true, lt-ltb, le-ltb, eq-eqb}
+use lib.IntN.{ℤ}
+use borrow.Author.Tests.{ltb-true, ltb-false, eqb-true, le-ltb}
 use lib.Ieee as Ieee
 use lib.Ieee.{Float, nan, inf, fin, Format, prec, low, binary32, of_bits, up, down, lt, le, eq, ne, neg, is_nan, below, level, round, units, odd, sum, size}
-use lib.Ieee.Fits.{up_pos, down_pos, round_is}
+use lib.Ieee.Fits.{down_pos, round_is}
 use lib.Ieee.Order.{round_mono}
 use lib.Ieee.Scale.{round_same}
-use Rattle.arithmetic.specs.Constants.{n0}
 use Rattle.arithmetic.specs.Order.{finite}
-use Rattle.arithmetic.proofs.Bounds.{tri, tri', across, both_zero, product_zero, between, AtLeastZero, an_inf, plain, minus_zero_lem, never}
-use Rattle.arithmetic.proofs.Bounds.{never', and_left, left_number, right_number, le_self}
+use Rattle.arithmetic.proofs.Bounds.{tri, tri', across, both_zero, product_zero, between, AtLeastZero, an_inf, plain, never}
+use Rattle.arithmetic.proofs.Bounds.{never', and_left, right_number}
 
 -- ---- a signed number as a difference
 abbrev pub above : Bool → ℕ → ℕ

@@ -1,5 +1,5 @@
 -- Sine, cosine, arctangent, arcsine and the arctangent of y, x of document 01. Definitions only.
-use Rattle.std.specs.Prelude.{Bool, true, false, cond, ◌||◌, Float}
+use Rattle.std.specs.Prelude.{cond, ◌||◌, Float}
 use Rattle.std.specs.Float.Ieee as Ieee
 use Rattle.std.specs.Float.{nan, binary32}
 use Rattle.std.specs.Float.Ieee.{is_nan, neg}

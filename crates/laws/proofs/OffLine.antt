@@ -1,5 +1,5 @@
 -- The distance that the laws answer is document 02's, for all numbers.
-use mathlib.Core.Path.{◌≡◌, refl, sym, ◌∙◌}
+use mathlib.Core.Path.{◌≡◌, refl, ◌∙◌}
 use mathlib.Core.Bool.{Bool, true, false, cond, ◌||◌}
 use lib.Ieee.{Float, is_nan, le}
 use Rattle.arithmetic.specs.Constants.{n0}

@@ -5,13 +5,11 @@ use native.Mathlib.Nat.{zero-mul}
 use native.Mathlib.Omega.{arith}
 use mathlib.Core.Bool.{Bool, true, false, cond, not}
 use lib.Dec.{T, eqb, ltb, ltb→lt, lt→ltb}
-use lib.IntN.{ℤ}
-use lib.Ieee as Ieee
 use lib.Ieee.Fits.{down_pos, round_is}
 use lib.Ieee.{low, emax, prec, up, down}
 use lib.Ieee.{Float, nan, inf, fin, binary32, odd, units, round, sum, add, mul, div, lt, is_nan, of_bits}
 use Rattle.arithmetic.specs.Constants.{◌+ᶠ◌, ◌·ᶠ◌, ◌/ᶠ◌, n0, n1}
-use Rattle.arithmetic.specs.Order.{finite, choose}
+use Rattle.arithmetic.specs.Order.{choose}
 use Rattle.arithmetic.proofs.Bounds.{never, never'}
 
 abbrev pub plus : Float → Bool

@@ -1,9 +1,8 @@
 -- The code's way to the L1 laws gives what the laws say: one measured speed, one aim, and no root past a ratio of 1.
-use mathlib.Core.Path.{◌≡◌, refl, sym, ap, ◌∙◌}
-use mathlib.Core.Bool.{Bool, true, false, cond, ◌||◌}
-use lib.Ieee as Ieee
-use lib.Ieee.{Float, binary32, is_nan, neg, lt, le, eq, of_bits, add, sub, mul, div}
-use Rattle.arithmetic.specs.Constants.{n0, n1, frac_pi4}
+use mathlib.Core.Path.{◌≡◌, refl, sym, ◌∙◌}
+use mathlib.Core.Bool.{Bool, true, false, ◌||◌}
+use lib.Ieee.{Float, is_nan, neg, lt, le, eq, of_bits, add, sub, mul, div}
+use Rattle.arithmetic.specs.Constants.{n0, n1}
 use Rattle.arithmetic.specs.Order.{clamp, size}
 use Rattle.arithmetic.specs.Root.{root_of}
 use Rattle.arithmetic.specs.Trigonometry.{arcsine, arctangent, arctangent_of_size, part, series}
@@ -13,7 +12,7 @@ use Rattle.arithmetic.specs.declared.vector.Normalised.{Normalised}
 use Rattle.arithmetic.specs.declared.vector.Normalised.TheVariants.{None, Parts}
 use Rattle.arithmetic.proofs.Bounds.{never'}
 use Rattle.laws.specs.Navigation.{max_capture, least_leg, least_offset, difference, along, right_of, no_course, level}
-use Rattle.laws.specs.Navigation.{track_along, track_by, track_accel, centripetal, loiter_by, loiter_accel, lateral_accel}
+use Rattle.laws.specs.Navigation.{track_by, track_accel, loiter_by, loiter_accel, lateral_accel}
 use Rattle.laws.specs.Code.Steering.{track_to, circle, aim_of, bad_radius, with_centripetal, steer}
 use Rattle.laws.specs.declared.types.OptionVec2.{OptionVec2}
 use Rattle.laws.specs.declared.types.OptionVec2.TheVariants as Leg

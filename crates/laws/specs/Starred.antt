@@ -13,7 +13,6 @@ use Rattle.laws.specs.Navigation.{pi_step}
 use Rattle.laws.specs.Tecs.{update_underspeed, turn_rate, reset, hold}
 use Rattle.laws.specs.declared.config.TecsConfig.{TecsConfig}
 use Rattle.laws.specs.declared.config.PlaneGuidanceConfig.{PlaneGuidanceConfig}
-use Rattle.laws.specs.declared.navigation.PiLoop.{PiLoop}
 use Rattle.laws.specs.declared.navigation.PiResult.{PiResult}
 
 -- ---- numbers

@@ -6,8 +6,8 @@ use native.Mathlib.Nat.{le_antisymm, le_of_suc-le-suc, le_trans, le_of_eq, lt_of
 use native.Mathlib.Nat.{mul_comm, mul_left_comm, mul-mul-mul_comm, suc-mul, two-mul, mul-le-mul_right, mul-lt-mul_of_pos_right, mul-pos, div-add-mod'}
 use native.Mathlib.Nat.{mod-lt, le-div_iff_mul-le, div-lt_iff_lt-mul, zero-lt-suc}
 use native.Mathlib.Omega.{arith}
-use mathlib.Core.Bool.{Bool, true, false, not}
-use lib.Dec.{T, is_le, compare_is_eq, eqb, leb→le, nleb→lt, eqb→eq, eqb_refl, lit<, lit≤}
+use mathlib.Core.Bool.{false, not}
+use lib.Dec.{T, is_le, compare_is_eq, eqb, leb→le, nleb→lt, eqb→eq, eqb_refl}
 use lib.Arith.{lt_of_le-ne}
 use lib.Pow.{pow-add, pow_pos, pow_mono, shl_lt}
 use lib.Ieee.{Float, binary32, size, nearest, round}

@@ -1,12 +1,11 @@
 -- `floor_root n` is the largest number whose square is at most n (`floor_is`). Facts about squares that need no floats. Assumes nothing.
-use mathlib.Core.Path.{◌≡◌, refl, sym, ap, ◌∙◌, subst}
+use mathlib.Core.Path.{◌≡◌, sym, ap, ◌∙◌, subst}
 use Prim.Native.Nat.{ℕ, zero, suc, ◌+◌, ◌*◌, ◌/◌, ◌^◌, ◌≤◌, ◌<◌, zero-le}
-use native.Mathlib.Nat.{le_trans, le_of_eq, lt_of_lt_of_le, lt_of_not-le, not-le_of_lt, le_of_suc-le-suc, suc-mul, mul-suc, mul_comm, mul-le-mul}
+use native.Mathlib.Nat.{le_trans, le_of_eq, lt_of_lt_of_le, lt_of_not-le, not-le_of_lt, le_of_suc-le-suc, suc-mul, mul-suc, mul-le-mul}
 use native.Mathlib.Nat.{mul-mul-mul_comm, pow-suc, div-lt_iff_lt-mul, zero-lt-suc}
 use native.Mathlib.Omega.{arith}
 use mathlib.Core.Bool.{Bool, true, false, not, cond}
 use lib.Dec.{T, leb, eqb, leb→le, nleb→lt, eqb→eq, lit≤}
-use lib.Pow.{pow_mono}
 use lib.Ieee.{size}
 use lib.Ieee.Digits.{size-lt}
 use Rattle.arithmetic.specs.Root.{floor_root_by, floor_root}

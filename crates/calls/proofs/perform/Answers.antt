@@ -5,7 +5,7 @@ use Rattle.calls.proofs.perform.Goals as goal
 
 pub returns-in-Prime : goal.returns-in-Prime
 unfolding perform
-returns-in-Prime c = rw (c.prime.ensures, ← c.taken_apart-w.ensures, c.enum_told-1.given.1)
+returns-in-Prime c = rw (c.prime.ensures, ← c.taken_apart-w.ensures, c.in-Prime.is)
 
 pub returns-in-Guide : goal.returns-in-Guide
-returns-in-Guide c = rw (c.guided.ensures, ← c.taken_apart-w.ensures, c.w-1.given.1)
+returns-in-Guide c = rw (c.guided.ensures, ← c.taken_apart-w.ensures, c.in-Guide.is)

@@ -13,4 +13,4 @@ tell-requires-in-Stopped c = rw c.stopped_line.ensures (stopped_count _ _)
 pub slice_bounds-bytes-end-in-Length : goal.slice_bounds-bytes-end-in-Length
 slice_bounds-bytes-end-in-Length c =
     fits _ _ _ _ _ c.compact-answer.ensures.0 c.compact-answer.ensures.1
-    c.answer-in-Length-1.given.1
+    c.in-Length.is

@@ -15,7 +15,7 @@ pub returns-in-Refused : goal.returns-in-Refused
 returns-in-Refused c =
     scan_bad c.loop-n.invariant _
     c.loop-n-test.true c.if-s-at.false
-    (sym c.read-1.given.1 ∙ c.skip_call-read.ensures)
+    (sym c.in-Refused.is ∙ c.skip_call-read.ensures)
 
 pub overflow_add-n : goal.overflow_add-n
 overflow_add-n c = omega arith
@@ -27,7 +27,7 @@ pub loop-n-preserved : goal.loop-n-preserved
 loop-n-preserved c =
     scan_turn c.loop-n.invariant _
     c.loop-n-test.true c.if-s-at.false
-    (sym c.read-in-Next-1.given.1 ∙ c.skip_call-read.ensures)
+    (sym c.in-Next.is ∙ c.skip_call-read.ensures)
 
 pub returns-then-s-at-2 : goal.returns-then-s-at-2
 returns-then-s-at-2 c = scan_over c.loop-n.invariant c.if-s-at-2.true

@@ -5,4 +5,4 @@ use Rattle.config_numbers.specs.Numbers.{config_of}
 use Rattle.config_numbers.proofs.config_of_bits.Goals as goal
 
 pub returns : goal.returns
-returns c = c.config_of_lem.ensures ∙ ap config_of c.floats.ensures
+returns c = c.config_of.ensures ∙ ap config_of c.floats.ensures

@@ -10,4 +10,4 @@ pub tell-requires : goal.tell-requires
 tell-requires c = rw c.stopped_line.ensures (stopped_count _ _)
 
 pub slice_bounds-out-end : goal.slice_bounds-out-end
-slice_bounds-out-end c = (c.convert_file-done.ensures.whole [] (λ _. refl)).within _ c.done-in-Size-1.given.1
+slice_bounds-out-end c = (c.convert_file-done.ensures.whole [] (λ _. refl)).within _ c.in-Size.is

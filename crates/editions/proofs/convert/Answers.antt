@@ -7,16 +7,13 @@ use Rattle.editions.proofs.convert.Goals as goal
 
 pub returns-in-Refused : goal.returns-in-Refused
 returns-in-Refused c =
-    let read = c.before.before.before in
-    let a = read.args in
-    let other-is = ap (λ (e : Edition). read_as e a.s.now a.at) read.other-from.ensures in
-    refusal_is a.wanted _ a.out-1.now a.place _ (sym other-is ∙ sym read.read_as-read.ensures ∙ c.read-1.given.1)
+    let a = c.args in
+    let other-is = ap (λ (e : Edition). read_as e a.s.now a.at) c.other-from.ensures in
+    refusal_is a.wanted _ a.out-1.now a.place _ (sym other-is ∙ sym c.read_as-read.ensures ∙ c.in-Refused.is)
 
 pub returns-in-Read : goal.returns-in-Read
 returns-in-Read c =
-    let written = c.before.before.before in
-    let read = written.before.before.before.before.before in
-    let a = read.args in
-    let other-is = ap (λ (e : Edition). read_as e a.s.now a.at) read.other-from.ensures in
-    places_are a.wanted _ a.out-1.now a.place _ _ (sym other-is ∙ sym read.read_as-read.ensures ∙ written.read-in-Read-1.given.1) _ _ _
-    written.write_as-answer.ensures.0 written.write_as-answer.ensures.1 c.places_of.ensures
+    let a = c.args in
+    let other-is = ap (λ (e : Edition). read_as e a.s.now a.at) c.other-from.ensures in
+    places_are a.wanted _ a.out-1.now a.place _ _ (sym other-is ∙ sym c.read_as-read.ensures ∙ c.in-Read.is) _ _ _
+    c.write_as-answer.ensures.0 c.write_as-answer.ensures.1 c.places_of.ensures

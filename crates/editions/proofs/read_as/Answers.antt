@@ -15,47 +15,34 @@ returns-then-s-at-lt4 c = cut _ _ _ (omega (arith, c.if-s-at-lt4.true))
 
 pub returns-then-not-is_complete : goal.returns-then-not-is_complete
 returns-then-not-is_complete c =
-    let number = c.before.before in
-    let room = number.before.before in
-    incomplete _ _ _ (omega (arith, room.if-s-at-lt4.false, room.if-s-at.false)) _ number.read_number-map.ensures.0 _ _ refl refl _
+    incomplete _ _ _ (omega (arith, c.if-s-at-lt4.false, c.if-s-at.false)) _ c.read_number-map.ensures.0 _ _ refl refl _
     c.is_complete.ensures (not-true _ c.if-not-is_complete.true)
 
 pub returns-then-mark-wanted : goal.returns-then-mark-wanted
 returns-then-mark-wanted c =
-    let number = c.before.before.before.before in
-    let room = number.before.before in
-    already _ _ _ (omega (arith, room.if-s-at-lt4.false, room.if-s-at.false)) _ number.read_number-map.ensures.0 _ _ refl refl _
+    already _ _ _ (omega (arith, c.if-s-at-lt4.false, c.if-s-at.false)) _ c.read_number-map.ensures.0 _ _ refl refl _
     c.is_complete.ensures (not-false _ c.if-not-is_complete.false) _ c.mark_of-wanted.ensures.0 c.if-mark-wanted.true
 
 pub returns-then-mark-eq0 : goal.returns-then-mark-eq0
 returns-then-mark-eq0 c =
-    let number = c.before.before.before.before.before.before in
-    let room = number.before.before in
-    let marked = c.before.before.before in
-    c.read_call_lem.ensures
-    ∙ first_is _ _ (omega (arith, room.if-s-at-lt4.false, room.if-s-at.false)) _ number.read_number-map.ensures.0 _ _ refl refl _
-    (c.if-mark-wanted.false ∙ marked.mark_of-wanted.ensures.0) c.if-mark-eq0.true
-    (sym marked.is_complete.ensures ∙ not-false _ marked.if-not-is_complete.false)
+    c.read_call.ensures
+    ∙ first_is _ _ (omega (arith, c.if-s-at-lt4.false, c.if-s-at.false)) _ c.read_number-map.ensures.0 _ _ refl refl _
+    (c.if-mark-wanted.false ∙ c.mark_of-wanted.ensures.0) c.if-mark-eq0.true
+    (sym c.is_complete.ensures ∙ not-false _ c.if-not-is_complete.false)
 
 pub read_second-requires : goal.read_second-requires
 read_second-requires c =
-    let number = c.before.before.before.before.before in
-    let room = number.before.before in
-    let marked = c.before.before in
-    let a = room.args in (
-      omega (arith, room.if-s-at-lt4.false, room.if-s-at.false),
-      (second_map a.s.now a.at (omega (arith, room.if-s-at-lt4.false, room.if-s-at.false)) _ number.read_number-map.ensures.0 _ _
-          refl refl a.edition (c.if-mark-wanted.false ∙ marked.mark_of-wanted.ensures.0) c.if-mark-eq0.false).0,
-      sym marked.is_complete.ensures ∙ not-false _ marked.if-not-is_complete.false,
+    let a = c.args in (
+      omega (arith, c.if-s-at-lt4.false, c.if-s-at.false),
+      (second_map a.s.now a.at (omega (arith, c.if-s-at-lt4.false, c.if-s-at.false)) _ c.read_number-map.ensures.0 _ _
+          refl refl a.edition (c.if-mark-wanted.false ∙ c.mark_of-wanted.ensures.0) c.if-mark-eq0.false).0,
+      sym c.is_complete.ensures ∙ not-false _ c.if-not-is_complete.false,
     )
 
 pub returns : goal.returns
 returns c =
-    let number = c.before.before.before.before.before.before in
-    let room = number.before.before in
-    let marked = c.before.before.before in
-    let a = room.args in
+    let a = c.args in
     c.read_second.ensures
     ∙ ap (λ (e : Edition). read_as e a.s.now a.at)
-    (sym (second_map a.s.now a.at (omega (arith, room.if-s-at-lt4.false, room.if-s-at.false)) _ number.read_number-map.ensures.0 _ _
-    refl refl a.edition (c.if-mark-wanted.false ∙ marked.mark_of-wanted.ensures.0) c.if-mark-eq0.false).1)
+    (sym (second_map a.s.now a.at (omega (arith, c.if-s-at-lt4.false, c.if-s-at.false)) _ c.read_number-map.ensures.0 _ _
+    refl refl a.edition (c.if-mark-wanted.false ∙ c.mark_of-wanted.ensures.0) c.if-mark-eq0.false).1)

@@ -19,8 +19,7 @@ loop-i-smaller-then-bit-eq1 c = omega arith
 pub loop-i-preserved-then-bit-eq1 : goal.loop-i-preserved-then-bit-eq1
 loop-i-preserved-then-bit-eq1 c =
     let done = c.turn_field-at.ensures in
-    let test = c.before.before.before.before in
-    turn_turn test.loop-i.invariant test.loop-i-test.true test.if-bit-eq1.true _ done.0 _ done.1
+    turn_turn c.loop-i.invariant c.loop-i-test.true c.if-bit-eq1.true _ done.0 _ done.1
 
 pub loop-i-smaller : goal.loop-i-smaller
 loop-i-smaller c = omega arith

@@ -10,10 +10,8 @@ turn_number-requires c =
 
 pub returns-then-is_down : goal.returns-then-is_down
 returns-then-is_down c =
-    let test = c.before.before.before.before in
-    let start = test.before.before.before in
-    let a = start.args in
-    field_turned a.part-1.now a.at a.n start.requires.1 (sym test.is_down.ensures ∙ test.if-is_down.true) _ c.turn_number.ensures
+    let a = c.args in
+    field_turned a.part-1.now a.at a.n c.requires.1 (sym c.is_down.ensures ∙ c.if-is_down.true) _ c.turn_number.ensures
 
 pub returns : goal.returns
 returns c =

@@ -8,6 +8,4 @@ turn-requires c = rw c.read_number-map.ensures.0 c.requires
 
 pub returns : goal.returns
 returns c =
-    let turned = c.before.before.before.before.before.before in
-    let read = turned.before.before in
-    record_turned _ _ _ _ (omega (arith, read.requires)) read.read_number-map.ensures.0 turned.turn.ensures c.write_number.ensures
+    record_turned _ _ _ _ (omega (arith, c.requires)) c.read_number-map.ensures.0 c.turn.ensures c.write_number.ensures

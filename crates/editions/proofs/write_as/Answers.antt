@@ -4,7 +4,7 @@ use Rattle.editions.proofs.write_as.Goals as goal
 
 pub returns-in-First : goal.returns-in-First
 unfolding record_as
-returns-in-First c = rw c.enum_told-1.given.1 c.write_call.ensures
+returns-in-First c = rw c.in-First.is c.write_call.ensures
 
 pub returns-in-Second : goal.returns-in-Second
-returns-in-Second c = rw c.enum_told-in-Second-1.given.1 c.write_second.ensures
+returns-in-Second c = rw c.in-Second.is c.write_second.ensures

@@ -21,7 +21,7 @@ print-requires c =
     (left_bad c.loop-n.invariant _
     c.loop-n-test.true
     c.if-s-at.false
-    (sym c.before.before.before.before.before.read_call_lem.ensures ∙ c.read-1.given.1))
+    (sym c.before.before.before.before.before.read_call.ensures ∙ c.in-Refused.is))
 
 pub shape_of-out-in-Refused : goal.shape_of-out-in-Refused
 shape_of-out-in-Refused c =
@@ -30,8 +30,8 @@ shape_of-out-in-Refused c =
     (left_bad c.loop-n.invariant _
     c.loop-n-test.true
     c.if-s-at.false
-    (sym c.before.before.before.before.before.before.before.before.read_call_lem.ensures
-    ∙ c.read-1.given.1)) _ _ c.print.ensures).long
+    (sym c.before.before.before.before.before.before.before.before.read_call.ensures
+    ∙ c.in-Refused.is)) _ _ c.print.ensures).long
 
 pub returns-in-Refused : goal.returns-in-Refused
 returns-in-Refused c =
@@ -40,16 +40,16 @@ returns-in-Refused c =
     (left_bad c.loop-n.invariant _
     c.loop-n-test.true
     c.if-s-at.false
-    (sym c.before.before.before.before.before.before.before.before.read_call_lem.ensures
-    ∙ c.read-1.given.1)) _ _ c.print.ensures)
+    (sym c.before.before.before.before.before.before.before.before.read_call.ensures
+    ∙ c.in-Refused.is)) _ _ c.print.ensures)
 
 pub print-to-requires : goal.print-to-requires
 print-to-requires c =
     turn_asks c.loop-n.invariant
     c.loop-n-test.true
     c.if-s-at.false _ _
-    (sym c.before.before.before.before.before.before.before.read_call_lem.ensures
-    ∙ c.read-in-Read-1.given.1) _ c.call_line-p.ensures
+    (sym c.before.before.before.before.before.before.before.read_call.ensures
+    ∙ c.in-Read.is) _ c.call_line-p.ensures
 
 pub overflow_add-n : goal.overflow_add-n
 overflow_add-n c = omega arith
@@ -62,8 +62,8 @@ loop-n-preserved c =
     call_turn c.loop-n.invariant
     c.loop-n-test.true
     c.if-s-at.false _ _
-    (sym c.before.before.before.before.before.before.before.before.before.before.read_call_lem.ensures
-    ∙ c.read-in-Read-1.given.1) _
+    (sym c.before.before.before.before.before.before.before.before.before.before.read_call.ensures
+    ∙ c.in-Read.is) _
     c.call_line-p.ensures _ _ c.print-to.ensures
 
 pub shape_of-out-then-s-at-2 : goal.shape_of-out-then-s-at-2

@@ -7,7 +7,7 @@ use Rattle.replay.proofs.pass.Goals as goal
 pub print-requires : goal.print-requires
 print-requires c =
     alone_asks _ c.args.out.now _ _ _ c.stopped_line.ensures
-    (config_bad _ _ (sym c.read_config-read.ensures ∙ c.read-1.given.1))
+    (config_bad _ _ (sym c.read_config-read.ensures ∙ c.in-Refused.is))
     (stopped_count _ _) c.requires
 
 pub print-requires-in-Refused-created : goal.print-requires-in-Refused-created
@@ -15,36 +15,36 @@ print-requires-in-Refused-created c =
     alone_asks _ c.args.out.now _ _ _
     c.refused_line.ensures (config_refused _ _ _
     (sym c.read_config-read.ensures
-    ∙ c.read-in-Read-1.given.1) _
-    (sym c.created-1.given.1 ∙ c.new-created.ensures.is))
+    ∙ c.in-Read.is) _
+    (sym c.in-Refused-created.is ∙ c.new-created.ensures.is))
     (refused_count _ _) c.requires
 
 pub calls-requires : goal.calls-requires
 calls-requires c =
     same_asks _ _ _ _ (config_made _ _ _ (sym c.read_config-read.ensures
-    ∙ c.read-in-Read-1.given.1) _
-    (sym c.created-in-Made-1.given.1 ∙ c.new-created.ensures.is))
+    ∙ c.in-Read.is) _
+    (sym c.in-Made.is ∙ c.new-created.ensures.is))
     c.requires
 
 pub returns-in-Refused : goal.returns-in-Refused
 returns-in-Refused c =
     alone_prints _ _ _ _ _ c.stopped_line.ensures
     (config_bad _ _ (sym c.read_config-read.ensures
-    ∙ c.read-1.given.1)) _ _ c.print.ensures
+    ∙ c.in-Refused.is)) _ _ c.print.ensures
 
 pub returns-in-Refused-created : goal.returns-in-Refused-created
 returns-in-Refused-created c =
     alone_prints _ _ _ _ _ c.refused_line.ensures
     (config_refused _ _ _ (sym
     c.read_config-read.ensures
-    ∙ c.read-in-Read-1.given.1) _
-    (sym c.created-1.given.1
+    ∙ c.in-Read.is) _
+    (sym c.in-Refused-created.is
     ∙ c.new-created.ensures.is)) _ _ c.print-in-Refused-created.ensures
 
 pub returns-in-Made : goal.returns-in-Made
 returns-in-Made c =
     rw (config_made _ _ _ (sym
     c.read_config-read.ensures
-    ∙ c.read-in-Read-1.given.1) _
-    (sym c.created-in-Made-1.given.1
+    ∙ c.in-Read.is) _
+    (sym c.in-Made.is
     ∙ c.new-created.ensures.is)) c.calls.ensures

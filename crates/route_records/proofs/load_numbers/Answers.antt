@@ -17,31 +17,26 @@ returns-then-s-from-2 c = short _ _ _ _ _ c.before.Numbers-of.ensures.0 (omega (
 
 pub returns-then-not-all_finite : goal.returns-then-not-all_finite
 returns-then-not-all_finite c =
-    let t = c.before.before.before in
-    not_finite _ _ _ _ _ t.before.Numbers-of.ensures.0 (omega (arith, t.if-s-from-2.false, t.if-s-from.false)) _
-    c.before.all_finite_lem.ensures (not-true _ c.if-not-all_finite.true)
+    not_finite _ _ _ _ _ c.Numbers-of.ensures.0 (omega (arith, c.if-s-from-2.false, c.if-s-from.false)) _
+    c.all_finite.ensures (not-true _ c.if-not-all_finite.true)
 
 pub returns-then-out-n : goal.returns-then-out-n
 returns-then-out-n c =
-    let t = c.before.before.before.before in
-    no_room _ _ _ _ _ t.before.Numbers-of.ensures.0 (omega (arith, t.if-s-from-2.false, t.if-s-from.false)) _
-    c.before.before.all_finite_lem.ensures (not-false _ c.if-not-all_finite.false) c.if-out-n.true
+    no_room _ _ _ _ _ c.Numbers-of.ensures.0 (omega (arith, c.if-s-from-2.false, c.if-s-from.false)) _
+    c.all_finite.ensures (not-false _ c.if-not-all_finite.false) c.if-out-n.true
 
 pub slice_bounds-read_numbers-end-3 : goal.slice_bounds-read_numbers-end-3
 slice_bounds-read_numbers-end-3 c = sym (length-take-le _ _ c.if-out-n.false)
 
 pub read_numbers-requires : goal.read_numbers-requires
 read_numbers-requires c =
-    let t = c.before.before.before.before.before.before in
-    let a = t.args in
-    let n = t.before.Numbers-of.result in
-    let room : a.from + (0 + 4 * n) ≤ length a.s.now = omega (arith, t.if-s-from-2.false, t.if-s-from.false) in
+    let a = c.args in
+    let n = c.Numbers-of.result in
+    let room : a.from + (0 + 4 * n) ≤ length a.s.now = omega (arith, c.if-s-from-2.false, c.if-s-from.false) in
     omega (arith, part_room 0 n a.from a.out-1.now a.s.now c.if-out-n.false room)
 
 pub returns : goal.returns
 returns c =
-    let d = c.before.before.before.before.before in
-    let t = d.before.before.before.before in
-    loads _ _ _ _ _ t.before.Numbers-of.ensures.0 (omega (arith, t.if-s-from-2.false, t.if-s-from.false)) _
-    d.before.before.all_finite_lem.ensures (not-false _ d.if-not-all_finite.false) d.if-out-n.false
+    loads _ _ _ _ _ c.Numbers-of.ensures.0 (omega (arith, c.if-s-from-2.false, c.if-s-from.false)) _
+    c.all_finite.ensures (not-false _ c.if-not-all_finite.false) c.if-out-n.false
     c.read_numbers.new.1.0 c.read_numbers.ensures

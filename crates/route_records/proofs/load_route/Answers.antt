@@ -5,9 +5,8 @@ use borrow.Author.Rules.{rules}
 use Rattle.route_records.proofs.load_route.Goals as goal
 
 pub returns-in-Refused : goal.returns-in-Refused
-returns-in-Refused c = maps_refused _ _ _ _ (sym c.n-1.given.1 ∙ c.read_maps.ensures)
+returns-in-Refused c = maps_refused _ _ _ _ (sym c.in-Refused.is ∙ c.read_maps.ensures)
 
 pub returns-in-Read : goal.returns-in-Read
 returns-in-Read c =
-    let t = c.before.before.before.before.before in
-    maps_given _ _ _ _ _ (sym t.map-1.given.1 ∙ t.read_maps.ensures) _ _ c.load_numbers.ensures
+    maps_given _ _ _ _ _ (sym c.in-Read.is ∙ c.read_maps.ensures) _ _ c.load_numbers.ensures

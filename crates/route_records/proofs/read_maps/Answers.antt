@@ -13,19 +13,15 @@ returns-then-s-at-lt4 c = first_cut _ _ (omega (arith, c.if-s-at-lt4.true))
 
 pub returns-then-first-lt-SECOND : goal.returns-then-first-lt-SECOND
 returns-then-first-lt-SECOND c =
-    let t = c.before.before.before.before in
-    c.one_map.ensures ∙ stands_alone _ _ (omega (arith, t.if-s-at-lt4.false, t.if-s-at.false)) _ c.read_number-first.ensures.0 c.if-first-lt-SECOND.true
+    c.one_map.ensures ∙ stands_alone _ _ (omega (arith, c.if-s-at-lt4.false, c.if-s-at.false)) _ c.read_number-first.ensures.0 c.if-first-lt-SECOND.true
 
 pub returns-then-s-at-lt8 : goal.returns-then-s-at-lt8
 returns-then-s-at-lt8 c =
-    let t = c.before.before.before.before in
-    second_cut _ _ (omega (arith, t.if-s-at-lt4.false, t.if-s-at.false)) _ c.read_number-first.ensures.0
+    second_cut _ _ (omega (arith, c.if-s-at-lt4.false, c.if-s-at.false)) _ c.read_number-first.ensures.0
     c.if-first-lt-SECOND.false (omega (arith, c.if-s-at-lt8.true))
 
 pub returns : goal.returns
 returns c =
-    let f = c.before.before.before.before in
-    let t = f.before.before.before in
     c.two_maps.ensures
-    ∙ has_second _ _ (omega (arith, t.if-s-at-lt4.false, t.if-s-at.false)) _ f.read_number-first.ensures.0 f.if-first-lt-SECOND.false
+    ∙ has_second _ _ (omega (arith, c.if-s-at-lt4.false, c.if-s-at.false)) _ c.read_number-first.ensures.0 c.if-first-lt-SECOND.false
     (omega (arith, c.if-s-at-lt8.false)) _ c.read_number-second.ensures.0

@@ -41,12 +41,10 @@ loop-i-smaller c = omega arith
 
 pub loop-i-preserved : goal.loop-i-preserved
 loop-i-preserved c =
-    let n = c.before.before in
-    let at = n.before.before.before.before.before in
-    let w = at.loop-i.invariant in
-    let h = n.loop-i-test.true in
-    rw (rest_back at.loop-i.part n.write_number.new.0 at.loop-i.at (omega (arith, write_room w h)))
-    (write_turn w h _ n.to_bits-bits.ensures n.write_number.new.0 n.write_number.ensures)
+    let w = c.loop-i.invariant in
+    let h = c.loop-i-test.true in
+    rw (rest_back c.loop-i.part c.write_number.new.0 c.loop-i.at (omega (arith, write_room w h)))
+    (write_turn w h _ c.to_bits-bits.ensures c.write_number.new.0 c.write_number.ensures)
 
 pub shape_of-part : goal.shape_of-part
 shape_of-part c = c.loop-i.invariant.long

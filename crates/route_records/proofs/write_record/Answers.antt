@@ -8,8 +8,7 @@ use Rattle.route_records.proofs.write_record.Goals as goal
 
 pub returns : goal.returns
 returns c =
-    let s = c.before.before.before.before.before.before.before.before.before.before in
-    let a = s.args in
-    let e = s.requires.0 in
+    let a = c.args in
+    let e = c.requires.0 in
     put_after _ a.part-1.now c.write_maps.new.0 _ (maps_bytes a.map) _ (sym e)
-    (omega (arith, s.requires.1)) (rw e c.write_maps.ensures) c.write_numbers.ensures
+    (omega (arith, c.requires.1)) (rw e c.write_maps.ensures) c.write_numbers.ensures

@@ -16,14 +16,12 @@ returns-then-numbers-n c = write_short _ _ _ _ _ c.map_refusal-refusal.ensures c
 
 pub returns-then-out-at : goal.returns-then-out-at
 returns-then-out-at c =
-    let t = c.before.before in
-    write_full _ _ _ _ _ t.map_refusal-refusal.ensures t.if-refusal-gt0.false _ t.Numbers-of.ensures.0
+    write_full _ _ _ _ _ c.map_refusal-refusal.ensures c.if-refusal-gt0.false _ c.Numbers-of.ensures.0
     c.if-numbers-n.false _ refl (omega (arith, c.if-out-at.true))
 
 pub returns-then-out-at-2 : goal.returns-then-out-at-2
 returns-then-out-at-2 c =
-    let t = c.before.before.before.before in
-    write_full _ _ _ _ _ t.map_refusal-refusal.ensures t.if-refusal-gt0.false _ t.Numbers-of.ensures.0
+    write_full _ _ _ _ _ c.map_refusal-refusal.ensures c.if-refusal-gt0.false _ c.Numbers-of.ensures.0
     c.if-numbers-n.false _ c.maps_size-maps.ensures.0 (omega (arith, c.if-out-at-2.true, c.if-out-at.false))
 
 pub slice_bounds-write_record-end-2 : goal.slice_bounds-write_record-end-2
@@ -39,8 +37,6 @@ write_record-requires c =
 
 pub returns : goal.returns
 returns c =
-    let d = c.before.before.before.before.before in
-    let t = d.before.before.before.before in
-    writes _ _ _ _ _ t.map_refusal-refusal.ensures t.if-refusal-gt0.false _ t.Numbers-of.ensures.0
-    d.if-numbers-n.false _ d.maps_size-maps.ensures.0 (omega (arith, d.if-out-at-2.false, d.if-out-at.false))
+    writes _ _ _ _ _ c.map_refusal-refusal.ensures c.if-refusal-gt0.false _ c.Numbers-of.ensures.0
+    c.if-numbers-n.false _ c.maps_size-maps.ensures.0 (omega (arith, c.if-out-at-2.false, c.if-out-at.false))
     c.write_record.new.0 c.write_record.ensures

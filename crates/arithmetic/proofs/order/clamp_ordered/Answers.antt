@@ -1,7 +1,6 @@
 -- `order::clamp_ordered` meets its contract: above the upper bound v is not below the lower one, since the bounds are not crossed.
 -- Assumes nothing.
 use mathlib.Core.Path.{◌≡◌, refl, sym, ap, ◌∙◌}
-use mathlib.Core.Logic.{inl, inr}
 use mathlib.Core.Bool.{Bool, true, false, cond}
 use lib.Ieee.{Float, lt}
 use Rattle.arithmetic.specs.Order.{clamp}

@@ -1,7 +1,7 @@
 use mathlib.Core.Path.{◌≡◌, sym, ◌∙◌, subst}
-use mathlib.Core.Bool.{Bool, true, false, not}
+use mathlib.Core.Bool.{true, false}
 use lib.Dec.{T}
-use lib.Ieee.{Float, nan, inf, fin, binary32, fits, is_nan, ne, to_bits}
+use lib.Ieee.{Float, binary32, fits, is_nan, ne}
 use Rattle.arithmetic.specs.Order.{negative}
 use Rattle.arithmetic.proofs.Bounds.{ne_self, nan_is}
 use Rattle.arithmetic.proofs.Signs.{sign_bit, is_number}

@@ -1,7 +1,7 @@
 use mathlib.Core.Path.{◌≡◌, sym, ap, ◌∙◌, subst}
 use mathlib.Core.Bool.{Bool, true, false, not}
 use lib.Dec.{T}
-use lib.Ieee.{Float, binary32, fits, is_nan, ne, to_bits}
+use lib.Ieee.{Float, binary32, fits, is_nan, ne}
 use lib.Ieee.Bits.{nan_bits_is}
 use Rattle.arithmetic.specs.Order.{size}
 use Rattle.arithmetic.proofs.Bounds.{ne_self, nan_is}

@@ -3,7 +3,6 @@
 use Prim.Native.Nat.{ℕ, ◌-◌, ◌*◌, ◌/◌, ◌%◌, ◌≤◌, ◌<◌}
 use native.Mathlib.Nat.{mul-le-mul}
 use native.Mathlib.Omega.{arith}
-use borrow.Author.Rules.{rules}
 use Rattle.arithmetic.specs.Code.Guess.{slope, bump}
 use Rattle.arithmetic.proofs.root.Near.{near}
 use Rattle.arithmetic.proofs.root.guess.Goals as goal

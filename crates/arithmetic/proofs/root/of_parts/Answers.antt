@@ -12,7 +12,6 @@ use Rattle.arithmetic.specs.Root.{nearest_root}
 use Rattle.arithmetic.specs.Code.Guess.{Beside, under}
 use Rattle.arithmetic.proofs.root.Squares.{NearestWhole}
 use Rattle.arithmetic.proofs.root.Whole.{Widened, even_or_odd, widened, half_power, stretch_half, stretch_place, small, at_most, mended, built, no_nan}
-use borrow.Author.Rules.{rules}
 use Rattle.arithmetic.proofs.root.of_parts.Goals as goal
 use Rattle.arithmetic.proofs.root.of_parts.Goals.{After-widened-m}
 

@@ -1,7 +1,6 @@
 -- `root::root` meets its contract. Assumes nothing.
-use mathlib.Core.Path.{◌≡◌, refl, sym, ap, ◌∙◌, subst}
-use mathlib.Core.Logic.{inl, inr}
-use Prim.Native.Nat.{ℕ, ◌+◌, ◌-◌, ◌*◌, ◌≤◌, ◌<◌}
+use mathlib.Core.Path.{◌≡◌, refl, sym, ◌∙◌, subst}
+use Prim.Native.Nat.{ℕ, ◌+◌, ◌-◌, ◌≤◌, ◌<◌}
 use native.Mathlib.Nat.{lt_of_not-le}
 use native.Mathlib.Omega.{arith}
 use lib.Dec.{T}
@@ -12,7 +11,6 @@ use Rattle.arithmetic.specs.Root.{root_of, nearest_root, IsRoot}
 use Rattle.arithmetic.proofs.root.Law.{is_root, is_root_of}
 use Rattle.arithmetic.proofs.root.Whole.{nan_root, no_nan_value, normal, not_normal, normal_root, parted, moved_parts}
 use Rattle.arithmetic.proofs.root.Whole.{Moved, moved, subnormal_root, NotOwn, own_root, not_own, zero_by_zero, no_root}
-use borrow.Author.Rules.{rules}
 use Rattle.arithmetic.proofs.root.root.Goals as goal
 use Rattle.arithmetic.proofs.root.root.Goals.{Else-b, Else-b-2, Else-b-gt2139095040, Joined-b, Start, Then-b}
 
@@ -75,10 +73,11 @@ parts : (c : Joined-b) → Parts (pattern c.before.before) c.if-b.c
 parts c =
     let b = pattern c.before.before in
     elim c.if-b.branch [
-      | inl (t, e) ↦ subst (Parts b) (sym e) (normal_parts b (normal b t.taken))
-      | inr (l, o, n, e) ↦
-          let own = not_own b o.left in
-          subst (Parts b) (sym e) (subnormal_parts b (above_zero b own) (below_normal b (not_normal b l.left) own n.left))
+      | goal.then-b w ↦ subst (Parts b) (sym w.c-is) (normal_parts b (normal b w.if-b.true))
+      | goal.else-b+else-b-2+else-b-gt2139095040 w ↦
+          let own = not_own b w.if-b-2.false in
+          subst (Parts b) (sym w.c-is)
+          (subnormal_parts b (above_zero b own) (below_normal b (not_normal b w.if-b.false) own w.if-b-gt2139095040.false))
     ]
 
 pub returns-then-x : goal.returns-then-x
@@ -109,7 +108,7 @@ pub overflow_sub-c : goal.overflow_sub-c
 overflow_sub-c c = omega (arith, (shift c).few)
 
 pub of_parts-requires : goal.of_parts-requires
-of_parts-requires c = let p = parts c.before in (p.low, p.high)
+of_parts-requires c = let p = parts c.before.before in (p.low, p.high)
 
 pub returns : goal.returns
 returns c =

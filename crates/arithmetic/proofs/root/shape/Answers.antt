@@ -526,5 +526,5 @@ pub returns-in_default : goal.returns-in_default
 unfolding piece pieces
 returns-in_default c =
     let i = c.args.i in
-    let last : i ≡ 127 = omega (arith, at_least 127 i c.in_default-own.rest, c.requires) in
+    let last : i ≡ 127 = omega (arith, at_least 127 i c.in_default.in_default-own.rest, c.requires) in
     rw last tt

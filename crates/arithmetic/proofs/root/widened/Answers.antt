@@ -4,7 +4,6 @@ use mathlib.Core.Path.{◌≡◌, sym, ap, ◌∙◌}
 use Prim.Native.Nat.{ℕ, ◌+◌, ◌-◌, ◌*◌, ◌/◌, ◌%◌, ◌≤◌}
 use native.Mathlib.Nat.{mul-le-mul}
 use native.Mathlib.Omega.{arith}
-use borrow.Author.Rules.{rules}
 use Rattle.arithmetic.specs.Code.Guess.{under}
 use Rattle.arithmetic.proofs.root.Whole.{stretch_half, stretch_place}
 use Rattle.arithmetic.proofs.root.widened.Goals as goal

@@ -1,13 +1,11 @@
 use mathlib.Core.Path.{◌≡◌, refl, sym, ap, ◌∙◌, subst}
 use mathlib.Core.Bool.{Bool, true, false, cond, not}
-use Prim.Native.Nat.{ℕ, zero, suc, ◌+◌, ◌*◌, ◌/◌, ◌%◌, ◌^◌, ◌<◌}
-use native.Mathlib.Nat.{lt_irrefl, mul-pos, zero-mul, pow-suc}
+use Prim.Native.Nat.{ℕ, zero, suc, ◌+◌, ◌*◌, ◌/◌, ◌%◌, ◌<◌}
+use native.Mathlib.Nat.{lt_irrefl, mul-pos, zero-mul}
 use native.Mathlib.Omega.{arith}
-use borrow.Author.Rules.{rules}
 use borrow.Author.Tests.{ne_eqb, lt-ltb, le-ltb}
-use lib.Dec.{T, eqb, eqb→eq}
-use lib.Pow.{pow_pos}
-use lib.IntN.{ℤ, pos, negsuc}
+use lib.Dec.{T}
+use lib.IntN.{ℤ, pos}
 use lib.Ieee as Ieee
 use lib.Ieee.{Float, nan, inf, fin, binary32, up, down, fits, is_nan, neg, ne, eq, lt, le, of_bits, to_bits, add, sub, mul, div}
 use lib.Ieee.Fits.{up_pos, cond-fits, add-fits, sub-fits, mul-fits}

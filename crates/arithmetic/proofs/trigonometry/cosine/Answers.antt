@@ -1,4 +1,4 @@
-use mathlib.Core.Path.{refl, sym, ◌∙◌}
+use mathlib.Core.Path.{sym, ◌∙◌}
 use lib.Ieee as Ieee
 use lib.Ieee.{of_bits}
 use Rattle.arithmetic.specs.Trigonometry.{cosine}

@@ -6,8 +6,7 @@ use lib.IntN.{pos}
 use lib.Ieee.{binary32, in_float, of_int}
 use lib.Ieee.Exact.{HasValue}
 use lib.Ieee.Back.{round_whole}
-use borrow.Author.Rules.{rules}
-use Rattle.arithmetic.proofs.Remainder.{Left, left_first, left_next, left_none}
+use Rattle.arithmetic.proofs.Remainder.{left_first, left_next, left_none}
 use Rattle.arithmetic.proofs.trigonometry.remainder.Goals as goal
 
 whole : (x : ℕ) → x ≤ 2 ^ 24 → HasValue (of_int binary32 (pos x)) false x 1

@@ -1,13 +1,4 @@
-use mathlib.Core.Bool.{false}
-use Prim.Native.Nat.{ℕ, ◌^◌, ◌≤◌}
-use native.Mathlib.Omega.{arith}
-use lib.Dec.{T, le→leb}
-use lib.IntN.{pos}
-use lib.Ieee.{binary32, in_float, of_int}
-use lib.Ieee.Exact.{HasValue}
-use lib.Ieee.Back.{round_whole}
-use borrow.Author.Rules.{rules}
-use Rattle.arithmetic.proofs.Remainder.{Left, left_first, left_next, left_none}
+use Rattle.arithmetic.proofs.Remainder.{Left}
 use Rattle.arithmetic.proofs.trigonometry.remainder.Given as goal
 
 abbrev pub invariant-loop-n : goal.invariant-loop-n

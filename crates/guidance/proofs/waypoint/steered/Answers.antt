@@ -8,18 +8,14 @@ unfolding lateral_law roll_of cross_track_of
 returns c =
     let c1 = c.before in
     let c2 = c1.before in
-    let c3 = c2.before in
-    let c4 = c3.before in
-    let c5 = c4.before in
-    let c6 = c5.before in
     rw (
       c.clamp_symmetric.ensures,
       c1.bank_for_accel_rad.ensures,
       c2.lateral_of.ensures,
-      c3.lateral_accel_mps2-lateral.ensures,
-      c4.north_east-2.ensures,
-      c5.north_east.ensures,
-      c6.finite_leg-leg.ensures,
+      c2.lateral_accel_mps2-lateral.ensures,
+      c2.north_east-2.ensures,
+      c2.north_east.ensures,
+      c2.finite_leg-leg.ensures,
       idle_is _ _ _ _ _ _ _,
       cross-track-is _ _ _ _ _ _ _,
     )

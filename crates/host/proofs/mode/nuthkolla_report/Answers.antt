@@ -4,8 +4,7 @@ use Rattle.host.proofs.mode.nuthkolla_report.Goals as goal
 pub returns-then-may : goal.returns-then-may
 unfolding report_by
 returns-then-may c =
-    let d = c.before.before in
-    rw (c.reported.ensures, ← d.deed_of.ensures, ← d.may.ensures, c.if-may.true)
+    rw (c.reported.ensures, ← c.deed_of.ensures, ← c.may.ensures, c.if-may.true)
 
 pub returns : goal.returns
 unfolding report_by

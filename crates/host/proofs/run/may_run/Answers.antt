@@ -18,11 +18,10 @@ returns-then-what-eq2 c =
 pub returns-then-what-eq3 : goal.returns-then-what-eq3
 unfolding deed_of
 returns-then-what-eq3 c =
-    let d = c.before.before.before in
     rw (
       c.may-then-what-eq3.ensures,
-      ne_eqb _ _ d.if-what-eq0.false,
-      ne_eqb _ _ d.if-what-eq1.false,
+      ne_eqb _ _ c.if-what-eq0.false,
+      ne_eqb _ _ c.if-what-eq1.false,
       ne_eqb _ _ c.if-what-eq2.false,
       eq-eqb _ _ c.if-what-eq3.true,
     )
@@ -30,11 +29,10 @@ returns-then-what-eq3 c =
 pub returns : goal.returns
 unfolding deed_of
 returns c =
-    let d = c.before.before.before in
     rw (
       c.may-2.ensures,
-      ne_eqb _ _ d.if-what-eq0.false,
-      ne_eqb _ _ d.if-what-eq1.false,
+      ne_eqb _ _ c.if-what-eq0.false,
+      ne_eqb _ _ c.if-what-eq1.false,
       ne_eqb _ _ c.if-what-eq2.false,
       ne_eqb _ _ c.if-what-eq3.false,
     )

@@ -5,7 +5,7 @@ use Rattle.host.proofs.run.run_config.Goals as goal
 
 pub returns-in-Refused : goal.returns-in-Refused
 unfolding run_config
-returns-in-Refused c = rw (c.bare.ensures, ← c.read_config-read.ensures, c.read-1.given.1)
+returns-in-Refused c = rw (c.bare.ensures, ← c.read_config-read.ensures, c.in-Refused.is)
 
 pub returns-in-Read : goal.returns-in-Read
 unfolding run_config performed perform
@@ -14,5 +14,5 @@ returns-in-Read c =
       c.of_field.ensures,
       c.set_config-done.ensures,
       ← c.read_config-read.ensures,
-      c.read-in-Read-1.given.1,
+      c.in-Read.is,
     )

@@ -4,9 +4,9 @@ use Rattle.host.proofs.run.run_new.Goals as goal
 
 pub returns-in-Refused : goal.returns-in-Refused
 unfolding run_new
-returns-in-Refused c = rw (c.bare.ensures, ← c.read_config-read.ensures, c.read-1.given.1)
+returns-in-Refused c = rw (c.bare.ensures, ← c.read_config-read.ensures, c.in-Refused.is)
 
 pub returns-in-Read : goal.returns-in-Read
 unfolding run_new
 returns-in-Read c =
-    rw (c.made.ensures, c.new.ensures.is, ← c.read_config-read.ensures, c.read-in-Read-1.given.1)
+    rw (c.made.ensures, c.new.ensures.is, ← c.read_config-read.ensures, c.in-Read.is)

@@ -5,5 +5,4 @@ use Rattle.host_routes.proofs.route.route_call_of.Goals as goal
 pub returns : goal.returns
 unfolding route_call_of
 returns c =
-    let calls = c.before.before in
-    rw (calls.option_of-cap.ensures, calls.option_of-airspeed_mps.ensures, calls.regime_of-regime.ensures)
+    rw (c.option_of-cap.ensures, c.option_of-airspeed_mps.ensures, c.regime_of-regime.ensures)

@@ -10,5 +10,4 @@ returns-then-k-gt1 c = rw (c.bare.ensures, lt-ltb _ _ c.if-k-gt1.true)
 pub returns : goal.returns
 unfolding run_route
 returns c =
-    let f = c.before.before in
-    rw (c.of_answer.ensures, f.fly-done.ensures, f.route_call_of.ensures, f.route_of.ensures, le-ltb _ _ f.if-k-gt1.false)
+    rw (c.of_answer.ensures, c.fly-done.ensures, c.route_call_of.ensures, c.route_of.ensures, le-ltb _ _ c.if-k-gt1.false)

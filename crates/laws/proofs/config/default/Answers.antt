@@ -1,5 +1,4 @@
-use mathlib.Core.Path.{refl}
-use lib.Ieee.{mul, div, of_bits, neg}
+use lib.Ieee.{mul, div, of_bits}
 use Rattle.laws.specs.Config.{default}
 use Rattle.laws.proofs.config.default.Goals as goal
 

@@ -23,5 +23,7 @@ returns-then-ratio-2 c = rw (past_right _ c.if-ratio.false c.if-ratio-2.true)
 pub returns : goal.returns
 unfolding capture clamp
 returns c =
-    let e = c.before.before in
-    rw (c.clamp_ordered.ensures, c.arcsine.ensures, e.if-ratio.false, e.if-ratio-2.false)
+    rw (c.clamp_ordered.ensures, c.arcsine.ensures, c.if-ratio.false, c.if-ratio-2.false)
+
+pub clamp_ordered-requires : goal.clamp_ordered-requires
+clamp_ordered-requires c = sides_ordered frac_pi4 above

@@ -4,16 +4,11 @@ use Rattle.laws.proofs.navigation.pi_finite.Goals as goal
 
 pub clamp_ordered-requires : goal.clamp_ordered-requires
 clamp_ordered-requires c =
-    let c5 = c.before.before.before.before.before in
-    rw c5.greatest-top.ensures (greatest_ordered _ _)
+    rw c.greatest-top.ensures (greatest_ordered _ _)
 
 pub returns : goal.returns
 unfolding pi_finite
 returns c =
     let c1 = c.before in
     let c2 = c1.before in
-    let c3 = c2.before in
-    let c4 = c3.before in
-    let c5 = c4.before in
-    let c6 = c5.before in
-    rw (← c6.greatest-top.ensures, ← c4.pi_pinned-pinned.ensures, ← c2.clamp_symmetric-grown.ensures, ← c1.choose-integral.ensures, ← c.clamp_ordered.ensures)
+    rw (← c2.greatest-top.ensures, ← c2.pi_pinned-pinned.ensures, ← c2.clamp_symmetric-grown.ensures, ← c1.choose-integral.ensures, ← c.clamp_ordered.ensures)

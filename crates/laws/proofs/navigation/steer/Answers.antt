@@ -1,13 +1,11 @@
-use borrow.Author.Rules.{rules}
 use Rattle.laws.specs.Code.Steering.{steer}
 use Rattle.laws.proofs.navigation.steer.Goals as goal
 
 pub returns-in-Line : goal.returns-in-Line
 unfolding steer
 returns-in-Line c =
-    let t = c.before in
-    rw (c.with_centripetal.ensures, t.track_to-tracked.ensures, t.aim-1.given.1)
+    rw (c.with_centripetal.ensures, c.track_to-tracked.ensures, c.in-Line.is)
 
 pub returns-in-Center : goal.returns-in-Center
 unfolding steer
-returns-in-Center c = rw (c.centripetal.ensures, c.enum_told-1.given.1)
+returns-in-Center c = rw (c.centripetal.ensures, c.in-Center.is)

@@ -1,13 +1,11 @@
-use borrow.Author.Rules.{rules}
 use Rattle.laws.specs.Code.Steering.{track_to}
 use Rattle.laws.proofs.navigation.track_to.Goals as goal
 
 pub returns-in-None : goal.returns-in-None
 unfolding track_to
-returns-in-None c = rw (← c.normalise.ensures, c.enum_told-1.given.1)
+returns-in-None c = rw (← c.normalise.ensures, c.in-None.is)
 
 pub returns-in-Parts : goal.returns-in-Parts
 unfolding track_to
 returns-in-Parts c =
-    let a = c.before.before in
-    rw (c.track_along.ensures, ← a.normalise.ensures, a.d-1.given.1)
+    rw (c.track_along.ensures, ← c.normalise.ensures, c.in-Parts.is)

@@ -20,18 +20,15 @@ returns-then-steps-gt600 c =
 pub returns-then-out-steps : goal.returns-then-out-steps
 unfolding answer buffer
 returns-then-out-steps c =
-    let s = c.before in
-    let z = ne_eqb _ _ s.if-steps-eq0.false in
-    let h = le-ltb _ _ s.if-steps-gt600.false in
-    let r = lt-ltb _ _ s.if-out-steps.true in
+    let z = ne_eqb _ _ c.if-steps-eq0.false in
+    let h = le-ltb _ _ c.if-steps-gt600.false in
+    let r = lt-ltb _ _ c.if-out-steps.true in
     (rw (c.refused-then-out-steps.ensures, z, h, r), rw (z, h, r))
 
 pub returns : goal.returns
 unfolding answer buffer
 returns c =
-    let d = c.before.before in
-    let s = d.before.before.before in
-    let z = ne_eqb _ _ s.if-steps-eq0.false in
-    let h = le-ltb _ _ s.if-steps-gt600.false in
-    let r = le-ltb _ _ s.if-out-steps.false in
-    (rw (z, h, r) d.draw_steps.ensures.0, rw (z, h, r) d.draw_steps.ensures.1)
+    let z = ne_eqb _ _ c.if-steps-eq0.false in
+    let h = le-ltb _ _ c.if-steps-gt600.false in
+    let r = le-ltb _ _ c.if-out-steps.false in
+    (rw (z, h, r) c.draw_steps.ensures.0, rw (z, h, r) c.draw_steps.ensures.1)

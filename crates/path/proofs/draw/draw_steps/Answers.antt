@@ -28,8 +28,7 @@ slice_bounds-put_point-end c = omega arith
 
 pub put_point-requires : goal.put_point-requires
 put_point-requires c =
-    let w = c.before.before.before.before.before in
-    has_room w.loop-n.invariant w.step-s.result w.step-s.ensures w.loop-n-test.true
+    has_room c.loop-n.invariant c.step-s.result c.step-s.ensures c.loop-n-test.true
 
 pub overflow_add-n : goal.overflow_add-n
 overflow_add-n c =
@@ -44,10 +43,7 @@ loop-n-smaller c = omega (arith, c.loop-n-test.true)
 
 pub loop-n-preserved : goal.loop-n-preserved
 loop-n-preserved c =
-    let p = c.before.before in
-    let t = p.before.before.before.before.before in
-    let w = t.before in
-    turn w.loop-n.invariant w.step-s.result w.step-s.ensures w.loop-n-test.true t.if-s.true p.put_point.new.0 p.put_point.ensures
+    turn c.loop-n.invariant c.step-s.result c.step-s.ensures c.loop-n-test.true c.if-s.true c.put_point.new.0 c.put_point.ensures
 
 pub overflow_add-result : goal.overflow_add-result
 overflow_add-result c = omega (arith, c.loop-n.invariant.few, c.loop-n-test.true)

@@ -13,5 +13,7 @@ above = refl
 pub returns : goal.returns
 unfolding turn_in_step
 returns c =
-    let c1 = c.before in
-    rw (c.clamp_ordered.ensures, c1.turn_rate-rate.ensures)
+    rw (c.clamp_ordered.ensures, c.turn_rate-rate.ensures)
+
+pub clamp_ordered-requires : goal.clamp_ordered-requires
+clamp_ordered-requires c = sides_ordered frac_pi2 above

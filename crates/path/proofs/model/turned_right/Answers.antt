@@ -5,8 +5,4 @@ pub returns : goal.returns
 unfolding turned_right
 returns c =
     let c1 = c.before in
-    let c2 = c1.before in
-    let c3 = c2.before in
-    let c4 = c3.before in
-    let c5 = c4.before in
-    rw (c4.sine-s.ensures, c5.cosine-c.ensures)
+    rw (c1.sine-s.ensures, c1.cosine-c.ensures)

@@ -95,4 +95,4 @@ returns c =
     (omega (arith, c.if-s-at-2.false)) _ _
     c.read_byte-kind.ensures
     c.read_byte-regime.ensures c.if-kind-gt6.false
-    c.if-regime-gt1.false _ _ _ c.read_numbers-v.ensures c.regime_of.ensures c.call_at_lem.ensures
+    c.if-regime-gt1.false _ _ _ c.read_numbers-v.ensures c.regime_of.ensures c.call_at.ensures

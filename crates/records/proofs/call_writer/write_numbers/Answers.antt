@@ -22,7 +22,7 @@ write_values-requires c =
     rw (five s) (omega (arith, s.requires.0, front_ones 5 15 refl s.args.map c.if-map-lt32.true))
 
 pub write_values-requires-else-map-lt32 : goal.write_values-requires-else-map-lt32
-write_values-requires-else-map-lt32 c = let s = c.before.before.before.before in rw s.requires.1 s.requires.0
+write_values-requires-else-map-lt32 c = rw c.requires.1 c.requires.0
 
 pub returns-then-map-lt32 : goal.returns-then-map-lt32
 returns-then-map-lt32 c =

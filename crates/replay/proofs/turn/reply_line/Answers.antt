@@ -4,8 +4,8 @@ use Rattle.replay.proofs.turn.reply_line.Goals as goal
 
 pub returns-in-Answered : goal.returns-in-Answered
 unfolding reply_line
-returns-in-Answered c = rw (c.answer_line.ensures, c.reply-1.given.1)
+returns-in-Answered c = rw (c.answer_line.ensures, c.in-Answered.is)
 
 pub returns-in-Primed : goal.returns-in-Primed
 unfolding reply_line
-returns-in-Primed c = rw (c.prime_line.ensures, c.enum_told-1.given.1)
+returns-in-Primed c = rw (c.prime_line.ensures, c.in-Primed.is)

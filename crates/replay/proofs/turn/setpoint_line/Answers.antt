@@ -4,7 +4,7 @@ use Rattle.replay.proofs.turn.setpoint_line.Goals as goal
 
 pub returns-in-Plane : goal.returns-in-Plane
 unfolding setpoint_line
-returns-in-Plane c = rw (c.to_bits.ensures, c.to_bits-in-Plane.ensures, c.to_bits-in-Plane-2.ensures, c.setpoint-1.given.1)
+returns-in-Plane c = rw (c.to_bits.ensures, c.to_bits-in-Plane.ensures, c.to_bits-in-Plane-2.ensures, c.in-Plane.is)
 
 pub returns-in-PlaneRate : goal.returns-in-PlaneRate
 unfolding setpoint_line
@@ -14,5 +14,5 @@ returns-in-PlaneRate c =
       c.to_bits-in-PlaneRate-2.ensures,
       c.to_bits-in-PlaneRate-3.ensures,
       c.to_bits-in-PlaneRate-4.ensures,
-      c.setpoint-in-PlaneRate-1.given.1,
+      c.in-PlaneRate.is,
     )

@@ -5,8 +5,7 @@ use Rattle.guidance.proofs.plane.PlaneGuidance.guide_capped.Goals as goal
 pub returns-then-dt-is_finite : goal.returns-then-dt-is_finite
 unfolding guided
 returns-then-dt-is_finite c =
-    let e = c.before in
-    guides _ _ _ _ _ _ _ (rw (c.obeyed.ensures, ← e.is_finite.ensures, e.if-dt-is_finite.true))
+    guides _ _ _ _ _ _ _ (rw (c.obeyed.ensures, ← c.is_finite.ensures, c.if-dt-is_finite.true))
 
 pub returns-else-dt-is_finite : goal.returns-else-dt-is_finite
 unfolding guided

@@ -5,8 +5,7 @@ use Rattle.guidance.proofs.plane.PlaneGuidance.guide_step.Goals as goal
 pub returns-then-dt-is_finite : goal.returns-then-dt-is_finite
 unfolding guided obeyed
 returns-then-dt-is_finite c =
-    let e = c.before in
-    guides _ _ _ _ _ _ _ (rw (c.waypoint_roll_first.ensures, ← e.is_finite.ensures, e.if-dt-is_finite.true))
+    guides _ _ _ _ _ _ _ (rw (c.waypoint_roll_first.ensures, ← c.is_finite.ensures, c.if-dt-is_finite.true))
 
 pub returns-else-dt-is_finite : goal.returns-else-dt-is_finite
 unfolding guided

@@ -6,8 +6,7 @@ use Rattle.guidance.proofs.plane.PlaneGuidance.new.Goals as goal
 pub returns-then-field-eq0 : goal.returns-then-field-eq0
 unfolding created fresh
 returns-then-field-eq0 c =
-    let i = c.before.before in
-    creates _ _ (rw (c.no_former.ensures, c.reset.ensures, ← i.validate-field.ensures, eq-eqb _ _ i.if-field-eq0.true))
+    creates _ _ (rw (c.no_former.ensures, c.reset.ensures, ← c.validate-field.ensures, eq-eqb _ _ c.if-field-eq0.true))
 
 pub returns-else-field-eq0 : goal.returns-else-field-eq0
 unfolding created

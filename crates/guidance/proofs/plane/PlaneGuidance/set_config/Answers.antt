@@ -5,8 +5,7 @@ use Rattle.guidance.proofs.plane.PlaneGuidance.set_config.Goals as goal
 pub returns-then-field-eq0 : goal.returns-then-field-eq0
 unfolding configured with_config
 returns-then-field-eq0 c =
-    let e = c.before.before.before in
-    rw (← e.validate-field.ensures, eq-eqb _ _ e.if-field-eq0.true)
+    rw (← c.validate-field.ensures, eq-eqb _ _ c.if-field-eq0.true)
 
 pub returns-else-field-eq0 : goal.returns-else-field-eq0
 unfolding configured
