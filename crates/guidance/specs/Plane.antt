@@ -41,9 +41,7 @@ use Rattle.guidance.specs.declared.plane.LateralLaw.{LateralLaw}
 use Rattle.guidance.specs.declared.plane.LateralLaw.TheVariants.{Track, Loiter, Idle}
 use Rattle.guidance.specs.declared.plane.VerticalLaw.{VerticalLaw}
 use Rattle.guidance.specs.declared.plane.VerticalLaw.TheVariants.{Energy, Hold, Fallback}
-use Rattle.guidance.specs.declared.plane.Laws.{Laws}
 use Rattle.guidance.specs.declared.plane.Steered.{Steered}
-use Rattle.guidance.specs.declared.plane.WaypointAnswer.{WaypointAnswer}
 use Rattle.guidance.specs.declared.plane.Answer.{Answer}
 use Rattle.guidance.specs.declared.plane.Answer.TheVariants.{Refused, Commanded, Waypoint}
 use Rattle.guidance.specs.declared.plane.Guided.{Guided}

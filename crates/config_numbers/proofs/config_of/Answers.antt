@@ -1,6 +1,5 @@
 -- `config_of` meets its contract. Assumes nothing.
 use lib.Dec.{lit<}
-use borrow.Author.Rules.{rules}
 use Rattle.config_numbers.specs.Numbers.{config_of}
 use Rattle.config_numbers.proofs.config_of.Goals as goal
 

@@ -1,6 +1,5 @@
 -- `config_of_bits` meets its contract. Assumes nothing.
 use mathlib.Core.Path.{ap, ◌∙◌}
-use borrow.Author.Rules.{rules}
 use Rattle.config_numbers.specs.Numbers.{config_of}
 use Rattle.config_numbers.proofs.config_of_bits.Goals as goal
 

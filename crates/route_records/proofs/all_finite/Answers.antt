@@ -14,7 +14,7 @@ number_at-requires c = omega arith
 
 pub returns-then-not-is_finite : goal.returns-then-not-is_finite
 returns-then-not-is_finite c = test_fails c.loop-i.invariant c.loop-i-test.true _ c.number_at.ensures
-    (sym c.is_finite.ensures ∙ not-true _ c.if-not-is_finite.true)
+    (sym c.is_finite.ensures ∙ c.if-not-is_finite.true)
 
 pub overflow_add-i : goal.overflow_add-i
 overflow_add-i c = omega arith
@@ -24,7 +24,7 @@ loop-i-smaller c = omega arith
 
 pub loop-i-preserved : goal.loop-i-preserved
 loop-i-preserved c = test_turn c.loop-i.invariant c.loop-i-test.true _ c.number_at.ensures
-    (sym c.is_finite.ensures ∙ not-false _ c.if-not-is_finite.false)
+    (sym c.is_finite.ensures ∙ c.if-not-is_finite.false)
 
 pub returns : goal.returns
 returns c = test_done c.loop-i.invariant c.loop-i-test.false

@@ -13,7 +13,7 @@ write_number-requires-else-size-eq4 c =
     let p = c.requires in
     let h = is_two a.map a.size p.0 c.if-size-eq4.false in
     let room = rw p.0 at p.1 in
-    omega (arith, eight a.part-1.now a.map h room)
+    omega (arith, eight a.part.now a.map h room)
 
 pub slice_bounds-write_number-count : goal.slice_bounds-write_number-count
 slice_bounds-write_number-count c =
@@ -21,7 +21,7 @@ slice_bounds-write_number-count c =
     let p = c.requires in
     let h = is_two a.map a.size p.0 c.if-size-eq4.false in
     let room = rw p.0 at p.1 in
-    omega (arith, eight a.part-1.now a.map h room, length_kept a.part-1.now a.map h room _ c.write_number-else-size-eq4.ensures)
+    omega (arith, eight a.part.now a.map h room, length_kept a.part.now a.map h room _ c.write_number-else-size-eq4.ensures)
 
 pub slice_bounds-write_number-start : goal.slice_bounds-write_number-start
 slice_bounds-write_number-start c =
@@ -29,7 +29,7 @@ slice_bounds-write_number-start c =
     let p = c.requires in
     let h = is_two a.map a.size p.0 c.if-size-eq4.false in
     let room = rw p.0 at p.1 in
-    omega (arith, eight a.part-1.now a.map h room, length_kept a.part-1.now a.map h room _ c.write_number-else-size-eq4.ensures)
+    omega (arith, eight a.part.now a.map h room, length_kept a.part.now a.map h room _ c.write_number-else-size-eq4.ensures)
 
 pub write_number-requires-else-size-eq4-2 : goal.write_number-requires-else-size-eq4-2
 write_number-requires-else-size-eq4-2 c =
@@ -37,7 +37,7 @@ write_number-requires-else-size-eq4-2 c =
     let p = c.requires in
     let h = is_two a.map a.size p.0 c.if-size-eq4.false in
     let room = rw p.0 at p.1 in
-    second_fits a.part-1.now a.map h room _ c.write_number-else-size-eq4.ensures
+    second_fits a.part.now a.map h room _ c.write_number-else-size-eq4.ensures
 
 pub returns-then-size-eq4 : goal.returns-then-size-eq4
 returns-then-size-eq4 c =
@@ -51,4 +51,4 @@ returns-else-size-eq4 c =
     let p = c.requires in
     let h = is_two a.map a.size p.0 c.if-size-eq4.false in
     let room = rw p.0 at p.1 in
-    wrote_two a.part-1.now a.map h room _ c.write_number-else-size-eq4.ensures _ c.write_number-else-size-eq4-2.ensures
+    wrote_two a.part.now a.map h room _ c.write_number-else-size-eq4.ensures _ c.write_number-else-size-eq4-2.ensures

@@ -43,8 +43,8 @@ pub loop-i-preserved : goal.loop-i-preserved
 loop-i-preserved c =
     let w = c.loop-i.invariant in
     let h = c.loop-i-test.true in
-    rw (rest_back c.loop-i.part c.write_number.new.0 c.loop-i.at (omega (arith, write_room w h)))
-    (write_turn w h _ c.to_bits-bits.ensures c.write_number.new.0 c.write_number.ensures)
+    rw (rest_back c.loop-i.part c.write_number.new.part c.loop-i.at (omega (arith, write_room w h)))
+    (write_turn w h _ c.to_bits-bits.ensures c.write_number.new.part c.write_number.ensures)
 
 pub shape_of-part : goal.shape_of-part
 shape_of-part c = c.loop-i.invariant.long

@@ -1,4 +1,3 @@
-use borrow.Author.Rules.{rules}
 use Rattle.guidance.specs.Code.Orders.{order_of}
 use Rattle.guidance.proofs.commands.order_of.Goals as goal
 

@@ -1,4 +1,3 @@
-use borrow.Author.Rules.{rules}
 use Rattle.guidance.proofs.entries.Orders.{followed, obeyed_is}
 use Rattle.guidance.proofs.entries.obeyed.Goals as goal
 

@@ -1,4 +1,3 @@
-use mathlib.Core.Path.{◌∙◌}
 use Rattle.guidance.specs.Plane.{all_finite}
 use Rattle.guidance.proofs.waypoint.Finite.{all_zero}
 use Rattle.guidance.proofs.waypoint.all_finite.Goals as goal

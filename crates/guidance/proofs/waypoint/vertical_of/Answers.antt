@@ -1,11 +1,10 @@
-use borrow.Author.Rules.{rules}
 use Rattle.guidance.specs.Plane.{vertical}
 use Rattle.guidance.proofs.waypoint.vertical_of.Goals as goal
 
 pub returns-in-Energy : goal.returns-in-Energy
 unfolding vertical
 returns-in-Energy c =
-    rw (c.on_path.ensures, c.energy_step.ensures, c.inputs_of.ensures, c.Limits-of.ensures, c.in-Energy.is)
+    rw (c.on_path.ensures, c.energy_step.ensures, c.inputs_of.ensures, c.limits_of.ensures, c.in-Energy.is)
 
 pub returns-in-Hold : goal.returns-in-Hold
 unfolding vertical

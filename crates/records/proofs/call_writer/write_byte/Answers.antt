@@ -12,7 +12,7 @@ use Rattle.records.proofs.call_writer.write_byte.Goals as goal
 pub returns-then-stands-eq1 : goal.returns-then-stands-eq1
 returns-then-stands-eq1 c =
     let a = c.args in (
-      put_front a.part-1.now c.write_number.new.0 a.at 1
+      put_front a.part-1.now c.write_number.new.part a.at 1
           (bytes_of 1 a.value) (bytes_long 1 a.value) (omega (arith, c.requires))
           c.write_number.ensures
           ∙ byte_written a.part-1.now a.at a.stands a.value (eq-eqb _ _ c.if-stands-eq1.true),

@@ -43,9 +43,9 @@ pub returns : goal.returns
 returns c =
     let a = c.args in
     fields_written a.part-1.now
-    c.write_number.new.0
-    c.write_byte-second.new.0
-    c.write_byte-third.new.0 _ a.map a.kind a.regime _ _ a.v.now
+    c.write_number.new.part
+    c.write_byte-second.new.part
+    c.write_byte-third.new.part _ a.map a.kind a.regime _ _ a.v.now
     c.requires.0
     c.requires.1
     c.write_number.ensures

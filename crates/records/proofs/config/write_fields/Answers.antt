@@ -10,6 +10,6 @@ pub returns : goal.returns
 returns c =
     let a = c.args in
     put_after 5 a.part-1.now
-    c.write_number.new.0 _ (bytes_of 5 a.map) _ (bytes_long 5 a.map)
+    c.write_number.new.part _ (bytes_of 5 a.map) _ (bytes_long 5 a.map)
     (omega (arith, c.requires))
     c.write_number.ensures c.write_values.ensures.0
