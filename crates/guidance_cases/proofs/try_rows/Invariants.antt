@@ -1,7 +1,5 @@
 -- `try_rows` is safe and ends: each turn leaves fewer rows to 100,000. Assumes nothing.
 use Prim.Native.Nat.{◌-◌, ◌≤◌}
-use native.Mathlib.Omega.{arith}
-use borrow.Author.Rules.{rules}
 use Rattle.guidance_cases.proofs.try_rows.Given as goal
 
 abbrev pub invariant-loop-rows : goal.invariant-loop-rows
