@@ -2,8 +2,9 @@
 // is its own array, and a function cannot be handed on, so that each program has its own loop over its rows.
 #![tactic(auto)]
 
-ghost use Rattle.std.specs.Prelude.{◌≡◌, ◌≤◌, length, from_bits, to_bits, IfOk};
+ghost use Rattle.std.specs.Prelude.{◌≡◌, ◌<◌, ◌≤◌, length, take, from_bits, to_bits, IfOk};
 ghost use Rattle.std.specs.Float.{binary32};
+ghost use Rattle.std.specs.Io.KnownBytes.{Consumes, IsAtEnd};
 
 use std::io;
 use std::io::{Read, Write};
@@ -46,13 +47,15 @@ pub fn word_of(a: u8, b: u8, c: u8, d: u8) -> u32 {
 
 // Reads until the room is full or the file ends, and says how many bytes it put at the room's start.
 pub fn read_full<F: Read>(file: &mut F, room: &mut [u8]) -> io::Result<usize>
-    ensures { IfOk result (λ n. n ≤ length room.new) }
+    ensures bound { IfOk result (λ n. n ≤ length room.new) }
+    ensures bytes { IfOk result (λ n. Consumes (F.remaining file.old) (F.remaining file.new) (take n room.new)) }
+    ensures end { IfOk result (λ n. n < length room.new → IsAtEnd (F.remaining file.new)) }
 {
     let mut done = 0;
     while done < room.len() {
         let n = file.read(&mut room[done..])?;
         if n == 0 {
-            break;
+            return Ok(done);
         }
         done += n;
     }
