@@ -1,11 +1,7 @@
 -- `write_maps` meets its contract. Assumes nothing.
 use native.Mathlib.Omega.{arith}
 use Rattle.route_records.proofs.MapsLaw.{is_one, is_two, eight, length_kept, second_fits, wrote_one, wrote_two}
-use borrow.Author.Rules.{rules}
 use Rattle.route_records.proofs.write_maps.Goals as goal
-
-pub write_number-requires : goal.write_number-requires
-write_number-requires c = omega (arith, c.if-size-eq4.true, c.requires.1)
 
 pub write_number-requires-else-size-eq4 : goal.write_number-requires-else-size-eq4
 write_number-requires-else-size-eq4 c =
