@@ -6,35 +6,15 @@ use mathlib.Core.List.{List}
 use lib.Dec.{eqb}
 use borrow.Author.Tests.{eqb-true}
 use Rattle.rights.specs.Rights.{may}
-use Rattle.rights.specs.declared.Deed.{Deed}
 use Rattle.rights.specs.declared.Deed.TheVariants as deed
-use Rattle.rights_claims.specs.Runs.{Step, after}
+use Rattle.rights_claims.specs.Runs.{after}
 use Rattle.rights_claims.proofs.TakenOut.{Keeps, taken_out}
 use Rattle.host_answers.specs.Answer.{bare}
 use Rattle.host.specs.Run as running
 use Rattle.host.specs.Run.{run_by}
 use Rattle.host.specs.Mode.{report_by}
 use Rattle.host_routes.specs.Route.{run_route_by, load_by, load_buffer_by, write_by, write_buffer_by}
-use Rattle.host_claims.specs.Rights.{
-  Held,
-  Ask,
-  run,
-  route,
-  load,
-  write,
-  report,
-  Sent,
-  Told,
-  asked_by,
-  step,
-  deed_of,
-  is_forbidden,
-  is_watchers,
-  refusal,
-  lent_by,
-  lent_after,
-  HostRights,
-}
+use Rattle.host_claims.specs.Rights.{Held, Ask, run, route, load, write, report, Sent, asked_by, step, deed_of, is_forbidden, is_watchers, refusal, lent_by, lent_after, HostRights}
 
 -- ---- a forbidden call
 

@@ -43,7 +43,7 @@ use Rattle.host_claims.specs.Inputs.{
   run_on,
   answers,
   left,
-  calls_by_lem,
+  calls_by,
   calls_of,
   NoFresh,
   OneList,
@@ -135,7 +135,7 @@ unfolding answers
 answers_next g i is = ap (λ (o : Ran). o.answer ∷ answers o.guidance is) (run_is g i)
 
 told_by_lem : (g : PlaneGuidance) (m : Meaning) (is : List Input) → NoFresh m → ((h : PlaneGuidance) → answers h is ≡ told is (replies h (calls_of is))) →
-    (run_as g m).answer ∷ answers (run_as g m).guidance is ≡ told_by m (replies g (calls_by_lem m (calls_of is))) (λ rest. told is rest)
+    (run_as g m).answer ∷ answers (run_as g m).guidance is ≡ told_by m (replies g (calls_by m (calls_of is))) (λ rest. told is rest)
 unfolding performed replies
 told_by_lem g (a_call k next) is n ih = ap (λ (rest : List RunAnswer). of_reply (perform g k).reply next ∷ rest) (ih (perform g k).next)
 told_by_lem g (a_fresh c next) is n ih = elim n [ ]
@@ -147,7 +147,7 @@ answers_told g [] n = refl
 answers_told g (i ∷ is) n = answers_next g i is ∙ told_by_lem g (meaning i) is n.0 (λ h. answers_told h is n.1)
 
 left_by : (g : PlaneGuidance) (m : Meaning) (is : List Input) → NoFresh m → ((h : PlaneGuidance) → left h is ≡ after h (calls_of is)) →
-    left (run_as g m).guidance is ≡ after g (calls_by_lem m (calls_of is))
+    left (run_as g m).guidance is ≡ after g (calls_by m (calls_of is))
 unfolding performed after
 left_by g (a_call k next) is n ih = ih (perform g k).next
 left_by g (a_fresh c next) is n ih = elim n [ ]
@@ -174,15 +174,15 @@ unfolding strikes_by
 marks_next b g i is = ap (strikes_by b (i ∷ is)) (answers_next g i is)
 
 -- an input that stays brings its call
-pub calls_next : (i : Input) (m : Meaning) (is : List Input) → meaning i ≡ m → calls_of (i ∷ is) ≡ calls_by_lem m (calls_of is)
+pub calls_next : (i : Input) (m : Meaning) (is : List Input) → meaning i ≡ m → calls_of (i ∷ is) ≡ calls_by m (calls_of is)
 unfolding calls_of
-calls_next i m is e = ap (λ (x : Meaning). calls_by_lem x (calls_of is)) e
+calls_next i m is e = ap (λ (x : Meaning). calls_by x (calls_of is)) e
 
 calls_by_lem : (b : Bool) (g : PlaneGuidance) (i : Input) (m : Meaning) (is : List Input) → meaning i ≡ m → NoFresh m →
     ((d : Bool) (h : PlaneGuidance) → calls_of (unmarked (InputMarks d h is) is) ≡ unmarked (CallMarks d h (calls_of is)) (calls_of is)) →
     let a = (run_as g m).answer in
     calls_of (unmarked (struck_by b m a ∷ InputMarks (fell_back_by b m a) (run_as g m).guidance is) (i ∷ is))
-    ≡ unmarked (CallMarks b g (calls_by_lem m (calls_of is))) (calls_by_lem m (calls_of is))
+    ≡ unmarked (CallMarks b g (calls_by m (calls_of is))) (calls_by m (calls_of is))
 unfolding performed replies refusals strikes unmarked
 calls_by_lem b g i (a_call k next) is e n ih = rw (refused_is (perform g k).reply next) (go (struck b k q) _ _ (ih (fell_back b k q) (perform g k).next))
   where
@@ -214,7 +214,7 @@ told_left_by : (b : Bool) (g : PlaneGuidance) (i : Input) (m : Meaning) (is : Li
     ≡ unmarked (InputMarks d h is) (answers h is)) →
     let a = (run_as g m).answer in
     let ms = struck_by b m a ∷ InputMarks (fell_back_by b m a) (run_as g m).guidance is in
-    told (unmarked ms (i ∷ is)) (unmarked (CallMarks b g (calls_by_lem m (calls_of is))) (replies g (calls_by_lem m (calls_of is))))
+    told (unmarked ms (i ∷ is)) (unmarked (CallMarks b g (calls_by m (calls_of is))) (replies g (calls_by m (calls_of is))))
     ≡ unmarked ms (a ∷ answers (run_as g m).guidance is)
 unfolding performed replies refusals strikes unmarked
 told_left_by b g i (a_call k next) is e n ih = rw (refused_is (perform g k).reply next) (go (struck b k q) _ _ _ (ih (fell_back b k q) (perform g k).next))
@@ -236,7 +236,7 @@ told_left b g [] n = refl
 told_left b g (i ∷ is) n =
     ap (λ (ms : List Bool).
     told (unmarked ms (i ∷ is))
-    (unmarked (CallMarks b g (calls_by_lem (meaning i) (calls_of is))) (replies g (calls_by_lem (meaning i) (calls_of is)))))
+    (unmarked (CallMarks b g (calls_by (meaning i) (calls_of is))) (replies g (calls_by (meaning i) (calls_of is)))))
     (marks_next b g i is)
     ∙ told_left_by b g i (meaning i) is refl n.0 (λ d h. told_left d h is n.1)
     ∙ ap (λ (ms : List Bool). unmarked ms ((run_as g (meaning i)).answer ∷ answers (run_as g (meaning i)).guidance is)) (sym (marks_next b g i is))
@@ -271,9 +271,9 @@ one_rest i rest n = n.1
 pub calls_join : (before rest : List Input) → calls_of (before ++ rest) ≡ calls_of before ++ calls_of rest
 unfolding calls_of
 calls_join [] rest = refl
-calls_join (i ∷ before) rest = ap (calls_by_lem (meaning i)) (calls_join before rest) ∙ go (meaning i)
+calls_join (i ∷ before) rest = ap (calls_by (meaning i)) (calls_join before rest) ∙ go (meaning i)
   where
-    go : (m : Meaning) → calls_by_lem m (calls_of before ++ calls_of rest) ≡ calls_by_lem m (calls_of before) ++ calls_of rest
+    go : (m : Meaning) → calls_by m (calls_of before ++ calls_of rest) ≡ calls_by m (calls_of before) ++ calls_of rest
     go (a_call k next) = refl
     go (a_fresh c next) = refl
     go (refused_as n failing next) = refl

@@ -1,12 +1,12 @@
 -- Demand 3 through `nuthkolla_run`: one claim about a list of inputs, of which none makes a fresh guidance.
-use Rattle.std.specs.Prelude.{◌≡◌, true, false, List, [], ◌∷◌, ◌++◌}
+use Rattle.std.specs.Prelude.{◌≡◌, true, List, ◌∷◌, ◌++◌}
 use Rattle.laws.specs.Config.{validate}
 use Rattle.laws.specs.declared.config.PlaneGuidanceConfig.{PlaneGuidanceConfig}
 use Rattle.guidance.specs.Plane.{fresh}
 use Rattle.guidance.specs.declared.plane.PlaneGuidance.{PlaneGuidance}
 use Rattle.claims.specs.Calls.{Call, replies, unmarked, starts_fresh, settings_of, fresh_with}
 use Rattle.claims.specs.Limits.{at_start, AllObey}
-use Rattle.host_claims.specs.Inputs.{Input, a_call, meaning, run_on, answers, left, calls_of, OneList, refused, input_marks, told}
+use Rattle.host_claims.specs.Inputs.{Input, a_call, meaning, run_on, answers, left, calls_of, refused, input_marks, told}
 
 -- Directly after a fresh start: the configuration of that moment passes `validate`, the kept one too, and all inputs that follow get
 -- the answers that a fresh guidance with the settings of that moment gives.
