@@ -6,29 +6,22 @@ use compaction::{Compacted, compact};
 use input::{input_room, read_input, tell};
 use replay::turn::{refused_line, stopped_line};
 
-const STANDARD_OUTPUT: i32 = 1;
-
-const STANDARD_ERROR: i32 = 2;
-
-fn main() {
+fn main(rt: HostRuntime) {
     let mut bytes = input_room();
-    let got = read_input(&mut bytes);
+    let got = read_input(&rt, &mut bytes);
+    // A line that standard error does not take is lost.
     if got.failed {
-        io::write_all(STANDARD_ERROR, b"compact: standard input cannot be read\n");
+        let _ = eprintln!(rt; "compact: standard input cannot be read");
         return;
     }
     let size = got.size;
     let answer = compact(&mut bytes[..size]);
-    match answer {
-        Compacted::Refused(field) => tell(refused_line(0, field)),
-        Compacted::Stopped { number, refusal } => tell(stopped_line(number, refusal)),
-        Compacted::Length(n) => {
-            if !io::write_all(STANDARD_OUTPUT, &bytes[..n]) {
-                io::write_all(
-                    STANDARD_ERROR,
-                    b"compact: standard output cannot be written\n",
-                );
-            }
-        }
-    }
+    let _ = match answer {
+        Compacted::Refused(field) => tell(&mut rt.stderr(), refused_line(0, field)),
+        Compacted::Stopped { number, refusal } => tell(&mut rt.stderr(), stopped_line(number, refusal)),
+        Compacted::Length(n) => match rt.write_all(&bytes[..n]) {
+            Ok(()) => Ok(()),
+            Err(_) => eprintln!(rt; "compact: standard output cannot be written"),
+        },
+    };
 }

@@ -12,10 +12,6 @@ use editions::{Converted, Edition, convert};
 use input::{INPUT_ROOM, input_room, read_input, tell};
 use replay::turn::stopped_line;
 
-const STANDARD_OUTPUT: i32 = 1;
-
-const STANDARD_ERROR: i32 = 2;
-
 // How many bytes were written; or the number of the record that was refused, and its refusal; or that the input is too long.
 #[derive(Clone, Copy)]
 enum Done {
@@ -74,31 +70,23 @@ fn convert_file(s: &[u8], out: &mut [u8]) -> Done
     }
 }
 
-fn main() {
+fn main(rt: HostRuntime) {
     let mut bytes = input_room();
-    let got = read_input(&mut bytes);
+    let got = read_input(&rt, &mut bytes);
+    // A line that standard error does not take is lost.
     if got.failed {
-        io::write_all(STANDARD_ERROR, b"edition: standard input cannot be read\n");
+        let _ = eprintln!(rt; "edition: standard input cannot be read");
         return;
     }
     let size = got.size;
     let mut out = input_room();
     let done = convert_file(&bytes[..size], &mut out);
-    match done {
-        Done::TooLong => {
-            io::write_all(
-                STANDARD_ERROR,
-                b"edition: standard input has more than 352393 bytes\n",
-            );
-        }
-        Done::Stopped { number, refusal } => tell(stopped_line(number, refusal)),
-        Done::Size(n) => {
-            if !io::write_all(STANDARD_OUTPUT, &out[..n]) {
-                io::write_all(
-                    STANDARD_ERROR,
-                    b"edition: standard output cannot be written\n",
-                );
-            }
-        }
-    }
+    let _ = match done {
+        Done::TooLong => eprintln!(rt; "edition: standard input has more than 352393 bytes"),
+        Done::Stopped { number, refusal } => tell(&mut rt.stderr(), stopped_line(number, refusal)),
+        Done::Size(n) => match rt.write_all(&out[..n]) {
+            Ok(()) => Ok(()),
+            Err(_) => eprintln!(rt; "edition: standard output cannot be written"),
+        },
+    };
 }
