@@ -8,7 +8,6 @@ use lib.Dec.{eqb}
 use lib.Ieee.{Float}
 use Rattle.arithmetic.proofs.Bounds.{never'}
 use Rattle.laws.specs.Config.{validate}
-use Rattle.laws.specs.declared.config.PlaneGuidanceConfig.{PlaneGuidanceConfig}
 use Rattle.laws.specs.declared.types.OptionF32.{OptionF32}
 use Rattle.laws.specs.declared.types.WaypointCommand.{WaypointCommand}
 use Rattle.laws.specs.declared.types.ControlInput.{ControlInput}
@@ -34,7 +33,7 @@ use Rattle.guidance.specs.Plane.{
   obeyed,
   guided,
 }
-use Rattle.claims.specs.Calls.{Call, guide, prime, set_config, take_back, Reply, answered, Outcome, answered_by, taken_back_by, perform, replies}
+use Rattle.claims.specs.Calls.{Call, guide, prime, set_config, take_back, answered, Outcome, answered_by, taken_back_by, perform, replies}
 use Rattle.guidance.specs.declared.plane.Former.{Former}
 use Rattle.guidance.specs.declared.plane.PlaneGuidance.{PlaneGuidance}
 use Rattle.guidance.specs.declared.plane.Guided.{Guided}

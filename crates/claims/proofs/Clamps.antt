@@ -1,23 +1,12 @@
 -- The bounds of every clamp of a guide call are in order, along every run. Assumes nothing.
 use mathlib.Core.Path.{◌≡◌, refl, sym}
 use mathlib.Core.Bool.{Bool, true, false, cond, not, ◌&&◌}
-use mathlib.Core.List.{List, ◌∷◌, ◌++◌}
+use mathlib.Core.List.{List}
 use lib.Ieee as Ieee
 use lib.Ieee.{Float, neg, is_nan, le, lt}
-use Rattle.arithmetic.specs.Constants.{◌+ᶠ◌, ◌-ᶠ◌, ◌·ᶠ◌, ◌/ᶠ◌, n0, n1, frac_pi4}
+use Rattle.arithmetic.specs.Constants.{◌-ᶠ◌, ◌·ᶠ◌, ◌/ᶠ◌, n0, n1, frac_pi4}
 use Rattle.arithmetic.specs.Order.{greatest, finite}
-use Rattle.arithmetic.proofs.Bounds.{
-  AtLeastZero,
-  between,
-  never,
-  and_left,
-  and_right,
-  left_number,
-  right_number,
-  finite_number,
-  greatest_right,
-  zero_between,
-}
+use Rattle.arithmetic.proofs.Bounds.{AtLeastZero, between, never, and_left, and_right, left_number, finite_number, greatest_right, zero_between}
 use Rattle.arithmetic.proofs.Sums.{sub_mono, neg_finite}
 use Rattle.laws.specs.Config.{validate}
 use Rattle.laws.specs.Math.{limit_or_zero}

@@ -1,6 +1,6 @@
 -- Why K12 is stated as it is: for each nearby statement a list of calls on which it fails, by computation. Assumes nothing.
 use mathlib.Core.Path.{◌≡◌, refl}
-use mathlib.Core.Bool.{Bool, true, false, cond, not, ◌&&◌, ◌||◌}
+use mathlib.Core.Bool.{Bool, true, false, not, ◌&&◌, ◌||◌}
 use mathlib.Core.List.{List, [], ◌∷◌}
 use lib.Ieee as Ieee
 use lib.Ieee.{to_bits, of_bits, le, is_nan}

@@ -35,13 +35,12 @@ use Rattle.laws.specs.Config.{within, first_failing, tecs_default, default, vali
 use Rattle.laws.proofs.Validated.{valid_field}
 use Rattle.laws.specs.Math.{limit_or_zero, clamp_symmetric}
 use Rattle.laws.specs.Types.{gravity, valid_airspeed}
-use Rattle.laws.specs.Navigation.{bank_for_accel, lateral_accel, finite_leg, pi_finite, pi_step}
+use Rattle.laws.specs.Navigation.{bank_for_accel, pi_finite, pi_step}
 use Rattle.laws.specs.Tecs.{flag, reset, update_underspeed, balanced_thrust, thrust, pitch, hold, energy_step}
 use Rattle.laws.specs.declared.config.TecsConfig.{TecsConfig}
 use Rattle.laws.specs.declared.config.PlaneGuidanceConfig.{PlaneGuidanceConfig}
 use Rattle.laws.specs.declared.navigation.PiLoop.{PiLoop}
 use Rattle.laws.specs.declared.navigation.PiResult.{PiResult}
-use Rattle.laws.specs.declared.tecs.Tecs.{Tecs}
 use Rattle.laws.specs.declared.tecs.Limits.{Limits}
 use Rattle.laws.specs.declared.tecs.Energies.{Energies}
 use Rattle.laws.specs.declared.tecs.ThrustResult.{ThrustResult}
@@ -52,60 +51,9 @@ use Rattle.laws.specs.declared.types.ControlInput.{ControlInput}
 use Rattle.laws.specs.declared.types.ControlInput.TheVariants as Input
 use Rattle.laws.specs.declared.types.FlightRegime.{FlightRegime}
 use Rattle.laws.specs.declared.types.VehicleState.{VehicleState}
-use Rattle.laws.specs.declared.types.Setpoint.{Setpoint}
-use Rattle.guidance.specs.Plane.{
-  no_former,
-  north_east,
-  or_zero,
-  capped,
-  top_thrust,
-  limits_of,
-  inputs,
-  roll_of,
-  height_error,
-  fallback,
-  vertical,
-  vertical_law,
-  steered,
-  finite_state,
-  all_finite,
-  fresh,
-  cleared,
-  primed,
-  with_config,
-  configured,
-  restored,
-  taken_back,
-  bad_time_step,
-  bad_cap,
-  refusal,
-  flown,
-  settled,
-  commanded,
-  waypoint,
-  obeyed,
-  guided,
-}
-use Rattle.claims.specs.Calls.{Call, guide, prime, set_config, take_back, Reply, answered, done, field, back, Outcome, answered_by, perform, refused, replies}
-use Rattle.claims.specs.Limits.{
-  InForce,
-  at_start,
-  underspeed_at,
-  underspeed_by,
-  underspeed_after,
-  in_force_after,
-  Between,
-  InSpan,
-  EnergyLimits,
-  HoldLimits,
-  Corrected,
-  FallbackPitch,
-  FallbackLimits,
-  VerticalLimits,
-  WaypointLimits,
-  Obeys,
-  AllObey,
-}
+use Rattle.guidance.specs.Plane.{no_former, or_zero, capped, top_thrust, limits_of, inputs, roll_of, height_error, fallback, vertical, vertical_law, steered, finite_state, all_finite, fresh, cleared, primed, with_config, configured, restored, taken_back, bad_time_step, bad_cap, refusal, flown, commanded, waypoint, obeyed, guided}
+use Rattle.claims.specs.Calls.{Call, guide, prime, set_config, take_back, Reply, answered, perform, refused, replies}
+use Rattle.claims.specs.Limits.{InForce, at_start, underspeed_at, underspeed_by, in_force_after, Between, EnergyLimits, HoldLimits, Corrected, FallbackPitch, FallbackLimits, VerticalLimits, Obeys, AllObey}
 use Rattle.guidance.specs.declared.plane.PlaneGuidance.{PlaneGuidance}
 use Rattle.guidance.specs.declared.plane.VerticalLaw.{VerticalLaw}
 use Rattle.guidance.specs.declared.plane.VerticalLaw.TheVariants.{Energy, Hold, Fallback}

@@ -13,7 +13,7 @@ use lib.Ieee.Fits.{up_pos, down_pos, round_is}
 use lib.Ieee.Scale.{round_same}
 use Rattle.arithmetic.specs.Constants.{◌+ᶠ◌, ◌-ᶠ◌, ◌·ᶠ◌, ◌/ᶠ◌, n0}
 use Rattle.arithmetic.specs.Order.{finite, greatest}
-use Rattle.arithmetic.proofs.Bounds.{finite_number, AtLeastZero, an_inf, plain, minus_zero_lem, at_least, between, zero_is, never, never', left_number, right_number, le_self}
+use Rattle.arithmetic.proofs.Bounds.{finite_number, AtLeastZero, an_inf, plain, minus_zero_lem, at_least, between, zero_is, never, never', right_number, le_self}
 use Rattle.arithmetic.proofs.Sums.{le_trans, le_neg, add_mono, sub_mono}
 
 -- ---- at least zero, at most zero, positive

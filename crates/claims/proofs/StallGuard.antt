@@ -1,22 +1,19 @@
 -- The stall guard's report after every list of calls, and full thrust while it stands. Assumes nothing.
 use mathlib.Core.Path.{◌≡◌, refl, sym, ap, ◌∙◌, subst}
-use mathlib.Core.Bool.{Bool, true, false, cond, not, ◌&&◌, ◌||◌}
-use mathlib.Core.List.{List, [], ◌∷◌, ◌++◌}
+use mathlib.Core.Bool.{Bool, true, false, cond, not, ◌||◌}
+use mathlib.Core.List.{List, [], ◌∷◌}
 use lib.Ieee as Ieee
 use lib.Ieee.{Float}
-use Rattle.arithmetic.proofs.Bounds.{never, never'}
+use Rattle.arithmetic.proofs.Bounds.{never}
 use Rattle.laws.specs.Config.{validate}
 use Rattle.laws.specs.Types.{valid_airspeed}
 use Rattle.laws.specs.Tecs.{reset}
-use Rattle.laws.specs.declared.config.TecsConfig.{TecsConfig}
 use Rattle.laws.specs.declared.config.PlaneGuidanceConfig.{PlaneGuidanceConfig}
 use Rattle.laws.specs.declared.types.OptionF32.{OptionF32}
-use Rattle.laws.specs.declared.types.ControlInput.{ControlInput}
 use Rattle.laws.specs.declared.types.ControlInput.TheVariants as Input
 use Rattle.laws.specs.declared.types.WaypointCommand.{WaypointCommand}
 use Rattle.laws.specs.declared.types.FlightRegime.{FlightRegime}
 use Rattle.laws.specs.declared.types.VehicleState.{VehicleState}
-use Rattle.laws.specs.declared.types.Setpoint.{Setpoint}
 use Rattle.laws.specs.declared.types.Setpoint.TheVariants as Set
 use Rattle.guidance.specs.Plane.{fresh, or_zero, vertical_law, top_thrust, stall_guard}
 use Rattle.guidance.specs.declared.plane.PlaneGuidance.{PlaneGuidance}
@@ -24,10 +21,10 @@ use Rattle.guidance.specs.declared.plane.VerticalLaw.{VerticalLaw}
 use Rattle.guidance.specs.declared.plane.VerticalLaw.TheVariants.{Energy, Hold, Fallback}
 use Rattle.guidance.specs.declared.plane.WaypointAnswer.{WaypointAnswer}
 use Rattle.guidance.specs.declared.plane.Answer.TheVariants.{Waypoint}
-use Rattle.claims.specs.Calls.{Call, guide, prime, set_config, take_back, Reply, answered, perform, refused, after, is_energy, is_fallback}
-use Rattle.claims.specs.Limits.{InForce, underspeed_at, underspeed_by, in_force_after, VerticalLimits, Obeys, SetpointLimits}
+use Rattle.claims.specs.Calls.{Call, guide, prime, set_config, take_back, answered, perform, refused, after, is_energy, is_fallback}
+use Rattle.claims.specs.Limits.{InForce, underspeed_at, in_force_after, VerticalLimits, Obeys, SetpointLimits}
 use Rattle.claims.specs.StallGuard.{Made, made, backwards, since, those, clearing, is_energy_step, is_kept, slow, regains, latest_slow, guard_stands, steps, StallGuardTold}
-use Rattle.claims.proofs.Limited.{valid, in_force_of, Stands, stands, BothValid, fresh_valid, still_valid}
+use Rattle.claims.proofs.Limited.{valid, in_force_of, stands, BothValid, fresh_valid, still_valid}
 use Rattle.claims.proofs.Runs.{valid_along}
 
 -- ---- one call more

@@ -2,7 +2,7 @@
 use Prim.Native.Nat.{ℕ}
 use mathlib.Core.Path.{◌≡◌, refl, sym, ap, ◌∙◌, subst}
 use mathlib.Core.Bool.{Bool, true, false, cond, not, ◌&&◌, ◌||◌}
-use mathlib.Core.List.{List, [], ◌∷◌, ◌++◌}
+use mathlib.Core.List.{List, [], ◌∷◌}
 use lib.Dec.{eqb}
 use lib.Ieee.{Float}
 use Rattle.arithmetic.proofs.Bounds.{never, never', and_left, and_right}
@@ -39,38 +39,14 @@ use Rattle.guidance.specs.Plane.{
   obeyed,
   guided,
 }
-use Rattle.claims.specs.Calls.{
-  Call,
-  guide,
-  prime,
-  set_config,
-  take_back,
-  Reply,
-  answered,
-  perform,
-  refused,
-  replies,
-  after,
-  refusals,
-  law_is,
-  is_hold,
-  is_fallback,
-  holds,
-  fell_back,
-  struck,
-  strikes,
-  unmarked,
-  starts_fresh,
-  settings_of,
-  fresh_with,
-}
+use Rattle.claims.specs.Calls.{Call, guide, prime, set_config, take_back, Reply, answered, perform, refused, replies, refusals, law_is, is_hold, is_fallback, holds, fell_back, struck, strikes, unmarked, starts_fresh, settings_of, fresh_with}
 use Rattle.guidance.specs.declared.plane.PlaneGuidance.{PlaneGuidance}
 use Rattle.guidance.specs.declared.plane.VerticalLaw.{VerticalLaw}
 use Rattle.guidance.specs.declared.plane.VerticalLaw.TheVariants.{Energy, Hold, Fallback}
 use Rattle.guidance.specs.declared.plane.Steered.{Steered}
 use Rattle.guidance.specs.declared.plane.Guided.{Guided}
 use Rattle.guidance.specs.declared.plane.TakenBack.{TakenBack}
-use Rattle.claims.proofs.Alike.{Alike, alike_refl, alike_sym, alike_trans, AlikeOutcome, perform_alike, replies_alike}
+use Rattle.claims.proofs.Alike.{Alike, alike_refl, alike_sym, alike_trans, perform_alike, replies_alike}
 
 -- ---- what one call leaves behind, by whether it was refused
 

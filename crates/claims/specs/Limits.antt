@@ -1,6 +1,6 @@
 -- The limits of a waypoint answer, by the configuration in force and underspeed, both worked out from the calls and from
 -- which of them were refused. Definitions only.
-use Rattle.std.specs.Prelude.{ℕ, ◌≡◌, Bool, true, false, cond, List, [], ◌∷◌, Float}
+use Rattle.std.specs.Prelude.{◌≡◌, Bool, true, false, cond, List, [], ◌∷◌, Float}
 use Rattle.std.specs.Float.Ieee as Ieee
 use Rattle.std.specs.Float.Ieee.{neg}
 use Rattle.arithmetic.specs.Constants.{◌+ᶠ◌, ◌-ᶠ◌, ◌·ᶠ◌, n0}
@@ -16,9 +16,8 @@ use Rattle.laws.specs.declared.types.VehicleState.{VehicleState}
 use Rattle.laws.specs.declared.types.Setpoint.{Setpoint}
 use Rattle.laws.specs.declared.types.Setpoint.TheVariants as Set
 use Rattle.guidance.specs.Plane.{no_former, capped, top_thrust, height_error, lateral_law, vertical_law, or_zero}
-use Rattle.claims.specs.Calls.{Call, guide, prime, set_config, take_back, Reply, answered, done, field, back, refused, perform}
+use Rattle.claims.specs.Calls.{Call, guide, prime, set_config, take_back, Reply, answered, done, field, back, refused}
 use Rattle.guidance.specs.declared.plane.Former.{Former}
-use Rattle.guidance.specs.declared.plane.PlaneGuidance.{PlaneGuidance}
 use Rattle.guidance.specs.declared.plane.VerticalLaw.{VerticalLaw}
 use Rattle.guidance.specs.declared.plane.VerticalLaw.TheVariants.{Energy, Hold, Fallback}
 use Rattle.guidance.specs.declared.plane.Laws.{Laws}

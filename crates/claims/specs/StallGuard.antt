@@ -3,20 +3,18 @@ use Rattle.std.specs.Prelude.{◌≡◌, Bool, true, false, cond, not, ◌&&◌,
 use Rattle.std.specs.Float.Ieee as Ieee
 use Rattle.arithmetic.specs.Constants.{◌·ᶠ◌, n0}
 use Rattle.laws.specs.Types.{valid_airspeed}
-use Rattle.laws.specs.declared.config.TecsConfig.{TecsConfig}
 use Rattle.laws.specs.declared.config.PlaneGuidanceConfig.{PlaneGuidanceConfig}
 use Rattle.laws.specs.declared.types.OptionF32.{OptionF32}
 use Rattle.laws.specs.declared.types.ControlInput.TheVariants as Input
 use Rattle.laws.specs.declared.types.WaypointCommand.{WaypointCommand}
 use Rattle.laws.specs.declared.types.FlightRegime.{FlightRegime}
 use Rattle.laws.specs.declared.types.VehicleState.{VehicleState}
-use Rattle.laws.specs.declared.types.Setpoint.{Setpoint}
 use Rattle.laws.specs.declared.types.Setpoint.TheVariants as Set
 use Rattle.guidance.specs.Plane.{fresh, is_waypoint, or_zero, top_thrust, stall_guard}
 use Rattle.guidance.specs.declared.plane.PlaneGuidance.{PlaneGuidance}
 use Rattle.guidance.specs.declared.plane.WaypointAnswer.{WaypointAnswer}
 use Rattle.guidance.specs.declared.plane.Answer.TheVariants.{Waypoint}
-use Rattle.claims.specs.Calls.{Call, guide, prime, set_config, take_back, Reply, answered, perform, refused, after, law_is, is_energy, is_fallback}
+use Rattle.claims.specs.Calls.{Call, guide, prime, set_config, take_back, answered, perform, refused, after, law_is, is_energy, is_fallback}
 
 -- ---- the list as it was run
 

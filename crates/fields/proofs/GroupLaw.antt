@@ -1,7 +1,7 @@
 -- Laws of f32s that are read group by group, each group from where the one before it ended. Assumes nothing.
-use mathlib.Core.Path.{◌≡◌, refl, sym, ap, ap₂, ◌∙◌}
+use mathlib.Core.Path.{◌≡◌, refl, sym, ap, ◌∙◌}
 use mathlib.Core.Bool.{Bool, true, false, cond}
-use mathlib.Core.List.{List, [], ◌∷◌, ◌++◌, append_assoc, append-nil}
+use mathlib.Core.List.{List, ◌∷◌, ◌++◌, append_assoc, append-nil}
 use Prim.Native.Nat.{ℕ, zero, suc, ◌+◌, ◌-◌, ◌*◌, ◌/◌, ◌%◌, ◌<◌, ◌≤◌, ◌^◌}
 use native.Mathlib.Omega.{arith}
 use native.Mathlib.Nat.{suc-add, mod-lt, sub-zero}
@@ -11,7 +11,7 @@ use lib.Dec.{eqb, lit<}
 use lib.Ieee.{Float, binary32, of_bits}
 use lib.ListN.{length, drop, take, replicate, length-replicate, length-append, replicate-append-replicate}
 use lib.Pow.{shr-shr}
-use lib.Seq.{take_at, drop_at, drop-drop, take_all}
+use lib.Seq.{take_at, drop_at, drop-drop}
 use Rattle.fields.specs.Bytes.{number_at}
 use Rattle.fields.specs.Fields.{ones, number_fields, values_at}
 use Rattle.fields.specs.Numbers.{floats_of}

@@ -7,12 +7,12 @@ use native.Mathlib.Omega.{arith}
 use native.Mathlib.Numerals.{add-one}
 use native.Mathlib.Nat.{sub-zero, pow-suc, pow-zero, pow-le-pow_right, lt_of_lt_of_le}
 use lib.Dec.{T, ltb, lit<}
-use lib.ListN.{length, set, get_or, take, drop, length-set, length-append, length-drop, take-append-drop}
+use lib.ListN.{length, set, get_or, take, drop, length-set, take-append-drop}
 use lib.Seq.{drop-drop, drop_at, get_or-drop, take-suc-set, drop-set-lt}
-use lib.Ieee.Compare.{differs_from_itself, nan_differs}
-use lib.Ieee.{Float, nan, inf, fin, binary32, is_nan, ne, div, fits, of_bits, to_bits, nan_bits}
-use lib.Ieee.Bits.{of_bits-to_bits, to_bits-lt, to_bits-of_bits, nan_bits_is, nan_bits_above}
-use Rattle.fields.specs.Bytes.{number_at, bytes_of, put_at}
+use lib.Ieee.Compare.{nan_differs}
+use lib.Ieee.{Float, nan, inf, fin, binary32, is_nan, ne, div, of_bits, to_bits, nan_bits}
+use lib.Ieee.Bits.{nan_bits_is, nan_bits_above}
+use Rattle.fields.specs.Bytes.{number_at, bytes_of}
 
 -- ---- numbers and their bytes
 

@@ -3,14 +3,14 @@
 use mathlib.Core.Path.{◌≡◌, refl, sym, ap, subst, ◌∙◌}
 use mathlib.Core.Bool.{Bool, true, false, not, cond, ◌||◌}
 use mathlib.Core.List.{List, [], ◌∷◌, ◌++◌, append_assoc, map}
-use Prim.Native.Nat.{ℕ, zero, suc, ◌+◌, ◌-◌, ◌*◌, ◌/◌, ◌%◌, ◌<◌, ◌≤◌, ◌^◌}
+use Prim.Native.Nat.{ℕ, zero, suc, ◌+◌, ◌*◌, ◌/◌, ◌%◌, ◌<◌, ◌≤◌, ◌^◌}
 use native.Mathlib.Omega.{arith}
 use native.Mathlib.Nat.{pow-suc, mul_comm, div-div-eq-div-mul}
-use borrow.Author.Tests.{eq-eqb, ne_eqb, eqb-true, eqb-false}
+use borrow.Author.Tests.{eq-eqb, ne_eqb, eqb-true}
 use lib.Dec.{T, eqb, lit<}
 use lib.Pow.{pow_pos}
 use lib.ListN.{length, drop, get_or}
-use lib.Ieee.{Float, nan, binary32, fits, of_bits, to_bits}
+use lib.Ieee.{Float, binary32, fits}
 use lib.Ieee.Bits.{of_bits-to_bits, of_bits-fits, to_bits-lt}
 use Rattle.fields.specs.Bytes.{number_at, bytes_of}
 use Rattle.fields.specs.Fields.{Field, stands, size_of, values_at, is_written, bit_of, map_of, body_of, number_fields, Held}

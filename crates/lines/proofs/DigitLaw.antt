@@ -1,16 +1,14 @@
 -- Digits, decimal and hexadecimal. Assumes nothing.
 use mathlib.Core.Path.{◌≡◌, refl, sym, ap, ◌∙◌}
-use mathlib.Core.Bool.{Bool, true, false, cond}
+use mathlib.Core.Bool.{Bool, true, false}
 use mathlib.Core.List.{List, [], ◌∷◌, ◌++◌, append_assoc}
-use Prim.Native.Nat.{ℕ, zero, suc, ◌+◌, ◌-◌, ◌*◌, ◌/◌, ◌%◌, ◌<◌, ◌≤◌, ◌^◌}
+use Prim.Native.Nat.{ℕ, zero, suc, ◌+◌, ◌-◌, ◌/◌, ◌%◌, ◌<◌, ◌≤◌, ◌^◌}
 use native.Mathlib.Omega.{arith}
-use native.Mathlib.Numerals.{add-one}
-use native.Mathlib.Nat.{pow-suc, mod-eq_of_lt, zero-add}
+use native.Mathlib.Nat.{pow-suc, zero-add}
 use borrow.Author.Tests.{lt-ltb, le-ltb, ltb-true, ltb-false}
-use lib.Dec.{ltb, lit<}
+use lib.Dec.{ltb}
 use lib.ListN.{length, set, drop, length-append, length-set}
 use lib.Seq.{drop-cons, drop-set-lt, get_or-set_same}
-use Rattle.fields.specs.Bytes.{put_at}
 use Rattle.lines.specs.Line.{digit, digits, decimal_in, decimal, Puts}
 
 pub low_digit : (d : ℕ) → d < 10 → 48 + d ≡ digit d

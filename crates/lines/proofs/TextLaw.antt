@@ -2,19 +2,19 @@
 use mathlib.Core.Path.{◌≡◌, refl, sym, ap, ◌∙◌}
 use mathlib.Core.Bool.{Bool, true, false, cond}
 use mathlib.Core.List.{List, [], ◌∷◌, ◌++◌, append_assoc, append-nil}
-use Prim.Native.Nat.{ℕ, zero, suc, ◌+◌, ◌-◌, ◌*◌, ◌<◌, ◌≤◌}
+use Prim.Native.Nat.{ℕ, ◌+◌, ◌-◌, ◌*◌, ◌<◌, ◌≤◌}
 use native.Mathlib.Omega.{arith}
 use native.Mathlib.Numerals.{add-one}
 use lib.Dec.{eqb}
 use borrow.Author.Tests.{eq-eqb, ne_eqb}
 use borrow.Rule.Slice.PartMut.{put_mid}
 use lib.ListN.{length, set, take, drop, get_or, length-append, length-take}
-use lib.Seq.{take-suc, take-take, take-length, length-take-le, get_or-take}
+use lib.Seq.{take-suc, length-take-le}
 use Rattle.lines.specs.declared.Word.{Word}
 use Rattle.lines.specs.declared.Word.TheVariants.{None, Plane, Rate, Prime, Track, Loiter, Idle, Energy, Hold, Fallback, Refused, Stopped}
 use Rattle.lines.specs.declared.Line.{Line}
-use Rattle.lines.specs.Line.{digits, hex8, decimal_in, decimal, word, words, subject, refusal, values, numbers, text, Puts}
-use Rattle.lines.proofs.PutLaw.{Wrote, wrote_none, wrote_first, wrote_all, wrote_byte, room_after, wrote_rest}
+use Rattle.lines.specs.Line.{digits, hex8, decimal, word, words, subject, refusal, values, numbers, text, Puts}
+use Rattle.lines.proofs.PutLaw.{Wrote, wrote_none, wrote_all, wrote_byte, room_after, wrote_rest}
 use Rattle.lines.proofs.DigitLaw.{digits_long, decimal_is, decimal_short}
 
 -- ---- words

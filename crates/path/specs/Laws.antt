@@ -1,5 +1,5 @@
 -- What is claimed of drawn paths beside the entry's contract.
-use Rattle.std.specs.Prelude.{ℕ, zero, suc, ◌+◌, ◌*◌, ◌≤◌, ◌≡◌, Bool, true, false, List, [], ◌∷◌, ◌++◌, Float, length, take, drop}
+use Rattle.std.specs.Prelude.{ℕ, suc, ◌+◌, ◌*◌, ◌≤◌, ◌≡◌, true, false, List, [], ◌∷◌, Float, length, take}
 use Rattle.laws.specs.declared.types.ControlInput.TheVariants as Input
 use Rattle.laws.specs.declared.types.Setpoint.TheVariants as Set
 use Rattle.guidance.specs.Plane.{guided}
@@ -11,7 +11,6 @@ use Rattle.path.specs.Model.{flown, settled}
 use Rattle.path.specs.Path.{path, start, stopped_here, put}
 use Rattle.path.specs.declared.model.WaypointCall.{WaypointCall}
 use Rattle.path.specs.declared.model.Model.{Model}
-use Rattle.path.specs.declared.model.Stepped.{Stepped}
 
 -- the guidance's own answer to the call
 abbrev pub own_answer : PlaneGuidance → WaypointCall → Guided

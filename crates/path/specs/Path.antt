@@ -5,7 +5,6 @@ use Rattle.guidance.specs.declared.plane.PlaneGuidance.{PlaneGuidance}
 use Rattle.path.specs.Model.{step}
 use Rattle.path.specs.declared.model.WaypointCall.{WaypointCall}
 use Rattle.path.specs.declared.model.Model.{Model}
-use Rattle.path.specs.declared.model.Stepped.{Stepped}
 use Rattle.path.specs.declared.draw.Drawn.{Drawn}
 
 -- ---- the path

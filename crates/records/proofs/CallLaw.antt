@@ -2,8 +2,7 @@
 use mathlib.Core.Path.{◌≡◌, refl, sym, ap, ◌∙◌}
 use mathlib.Core.Bool.{Bool, true, false, cond, not}
 use mathlib.Core.List.{List, [], ◌∷◌, ◌++◌, append_assoc}
-use Prim.Native.Nat as nat
-use Prim.Native.Nat.{ℕ, suc, ◌+◌, ◌-◌, ◌*◌, ◌/◌, ◌%◌, ◌<◌, ◌≤◌, ◌^◌}
+use Prim.Native.Nat.{ℕ, ◌+◌, ◌-◌, ◌*◌, ◌/◌, ◌%◌, ◌<◌, ◌≤◌, ◌^◌}
 use native.Mathlib.Omega.{arith}
 use native.Mathlib.Nat.{mod-lt}
 use borrow.Author.Tests.{le-ltb, lt-ltb, le-leb, lt-leb, eqb-true, eqb-false}
@@ -14,7 +13,7 @@ use lib.Ieee.{Float, to_bits, of_bits}
 use Rattle.laws.specs.declared.types.FlightRegime.{FlightRegime}
 use Rattle.laws.specs.declared.types.FlightRegime.TheVariants.{Copter, Plane}
 use Rattle.fields.specs.Bytes.{number_at, bytes_of, put_at}
-use Rattle.fields.specs.Fields.{Field, ones, named, stands, size_of, values_at, is_written, bit_of, map_of, body_of, number_fields}
+use Rattle.fields.specs.Fields.{Field, ones, stands, size_of, values_at, is_written, bit_of, map_of, body_of, number_fields}
 use Rattle.fields.specs.Numbers.{floats_of, bits_of}
 use Rattle.fields.proofs.NumberLaw.{bytes_long}
 use Rattle.fields.proofs.MapLaw.{bits_length, floats_joined, bits_joined, bits_drop}

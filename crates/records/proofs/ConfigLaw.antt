@@ -1,16 +1,15 @@
 -- Each outcome of reading a configuration record, and what is written. Assumes nothing.
 use mathlib.Core.Path.{◌≡◌, refl, sym, ap, ◌∙◌}
-use mathlib.Core.Bool.{Bool, true, false, not}
-use mathlib.Core.List.{List, [], ◌∷◌, ◌++◌}
+use mathlib.Core.Bool.{true, false}
+use mathlib.Core.List.{List, ◌++◌}
 use Prim.Native.Nat.{ℕ, ◌+◌, ◌-◌, ◌*◌, ◌<◌, ◌≤◌, ◌^◌}
 use native.Mathlib.Omega.{arith}
 use borrow.Author.Tests.{le-ltb, lt-ltb, le-leb, lt-leb}
 use lib.ListN.{length, drop, take, replicate, length-append}
-use lib.Ieee.{Float}
 use Rattle.laws.specs.declared.config.PlaneGuidanceConfig.{PlaneGuidanceConfig}
 use Rattle.laws.specs.Config.{default}
-use Rattle.fields.specs.Bytes.{number_at, bytes_of, put_at}
-use Rattle.fields.specs.Fields.{Field, ones, named, size_of, values_at, map_of, body_of, number_fields}
+use Rattle.fields.specs.Bytes.{number_at, bytes_of}
+use Rattle.fields.specs.Fields.{ones, named, size_of, values_at, map_of, body_of, number_fields}
 use Rattle.fields.specs.Numbers.{floats_of, bits_of}
 use Rattle.config_numbers.specs.Numbers.{config_of, numbers_of}
 use Rattle.records.specs.Config.{config_fields, config_map, config_record, read_config}

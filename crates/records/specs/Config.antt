@@ -1,6 +1,5 @@
 -- Configuration record: "5-byte map, bit n-1 for field n, then fields; missing means the Default value". Definitions only.
-use Rattle.std.specs.Prelude.{cond, not, List, [], ◌∷◌, ◌++◌, ℕ, ◌+◌, length, drop, get_or, replicate, Float}
-use Rattle.std.specs.Float.{nan}
+use Rattle.std.specs.Prelude.{cond, not, List, ◌++◌, ℕ, ◌+◌, drop, replicate}
 use Rattle.laws.specs.declared.config.PlaneGuidanceConfig.{PlaneGuidanceConfig}
 use Rattle.laws.specs.Config.{default}
 use Rattle.config_numbers.specs.Numbers.{numbers_of, config_of}

@@ -9,7 +9,7 @@ use borrow.Author.Tests.{le-leb, lt-ltb, le-ltb, ne_eqb, eqb-false, ltb-true, lt
 use lib.Dec.{T, eqb, ltb}
 use lib.ListN.{length, drop, take, replicate, length-append, length-drop, length-replicate}
 use lib.Seq.{drop_at, drop-drop, take-add}
-use lib.Ieee.{Float, binary32, of_bits, to_bits, fits}
+use lib.Ieee.{Float, binary32, of_bits, to_bits}
 use lib.Ieee.Bits.{of_bits-to_bits, to_bits-of_bits, to_bits-lt, of_bits-fits}
 use Rattle.arithmetic.specs.Constants.{n0}
 use Rattle.arithmetic.specs.Order.{finite}

@@ -1,17 +1,14 @@
 -- A route call: "before that it moves on by one point when .."; then the leg to the point reached is flown. Definitions only.
-use Rattle.std.specs.Prelude.{Bool, true, false, cond, not, List, [], ◌∷◌, ℕ, zero, suc, ◌+◌, ◌-◌, ◌*◌, eqb, leb, length, drop, get_or, Float}
+use Rattle.std.specs.Prelude.{Bool, false, cond, not, List, [], ◌∷◌, ℕ, zero, suc, ◌+◌, ◌-◌, ◌*◌, eqb, leb, length, drop, get_or, Float}
 use Rattle.std.specs.Float.Ieee as Ieee
 use Rattle.std.specs.Float.{nan}
 use Rattle.arithmetic.specs.Constants.{◌-ᶠ◌, n0}
 use Rattle.arithmetic.specs.Vector.{norm, dot}
 use Rattle.arithmetic.specs.declared.vector.Vec2.{Vec2}
-use Rattle.laws.specs.declared.types.FlightRegime.{FlightRegime}
-use Rattle.laws.specs.declared.types.OptionF32.{OptionF32}
 use Rattle.laws.specs.declared.types.OptionVec2.{OptionVec2}
 use Rattle.laws.specs.declared.types.OptionVec2.TheVariants as Leg
 use Rattle.laws.specs.declared.types.ControlInput.TheVariants as Input
 use Rattle.laws.specs.declared.types.Vec3.{Vec3}
-use Rattle.laws.specs.declared.types.VehicleState.{VehicleState}
 use Rattle.laws.specs.declared.types.WaypointCommand.{WaypointCommand}
 use Rattle.fields.specs.Fields.{ones}
 use Rattle.guidance.specs.Plane.{guided, refusal_number}

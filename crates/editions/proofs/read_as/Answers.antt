@@ -16,12 +16,12 @@ returns-then-s-at-lt4 c = cut _ _ _ (omega (arith, c.if-s-at-lt4.true))
 pub returns-then-not-is_complete : goal.returns-then-not-is_complete
 returns-then-not-is_complete c =
     incomplete _ _ _ (omega (arith, c.if-s-at-lt4.false, c.if-s-at.false)) _ c.read_number-map.ensures.0 _ _ refl refl _
-    c.is_complete.ensures (not-true _ c.if-not-is_complete.true)
+    c.is_complete.ensures c.if-not-is_complete.true
 
 pub returns-then-mark-wanted : goal.returns-then-mark-wanted
 returns-then-mark-wanted c =
     already _ _ _ (omega (arith, c.if-s-at-lt4.false, c.if-s-at.false)) _ c.read_number-map.ensures.0 _ _ refl refl _
-    c.is_complete.ensures (not-false _ c.if-not-is_complete.false) _ c.mark_of-wanted.ensures.0 c.if-mark-wanted.true
+    c.is_complete.ensures c.if-not-is_complete.false _ c.mark_of-wanted.ensures.0 c.if-mark-wanted.true
 
 pub returns-then-mark-eq0 : goal.returns-then-mark-eq0
 returns-then-mark-eq0 c =

@@ -1,28 +1,13 @@
 -- `changed` meets its contract: m is the map of fields i and up. Assumes nothing.
 use native.Mathlib.Omega.{arith}
-use Rattle.fields.proofs.FieldLaw.{Changing, changed_starts, changed_below, changed_fits, changed_turn, changed_done}
+use Rattle.fields.proofs.FieldLaw.{changed_starts, changed_fits, changed_turn, changed_done}
 use Rattle.fields.proofs.changed.Goals as goal
 
 pub loop-i-init : goal.loop-i-init
 loop-i-init c = changed_starts _ _
 
-pub overflow_sub-i : goal.overflow_sub-i
-overflow_sub-i c = omega arith
-
 pub overflow_mul-m : goal.overflow_mul-m
 overflow_mul-m c = omega (arith, changed_fits _ _ c.loop-i.invariant c.requires.0 c.requires.1)
-
-pub offset_bounds-v-i : goal.offset_bounds-v-i
-offset_bounds-v-i c = omega (arith, changed_below _ _ c.loop-i.invariant c.requires.0)
-
-pub bounds-v-i : goal.bounds-v-i
-bounds-v-i c = omega (arith, changed_below _ _ c.loop-i.invariant c.requires.0)
-
-pub offset_bounds-missing-i : goal.offset_bounds-missing-i
-offset_bounds-missing-i c = omega (arith, changed_below _ _ c.loop-i.invariant c.requires.0)
-
-pub bounds-missing-i : goal.bounds-missing-i
-bounds-missing-i c = omega (arith, changed_below _ _ c.loop-i.invariant c.requires.0)
 
 pub overflow_add-m : goal.overflow_add-m
 overflow_add-m c =
@@ -31,9 +16,6 @@ overflow_add-m c =
       changed_fits _ _ c.loop-i.invariant
           c.requires.0 c.requires.1,
     )
-
-pub loop-i-smaller : goal.loop-i-smaller
-loop-i-smaller c = omega arith
 
 pub loop-i-preserved : goal.loop-i-preserved
 loop-i-preserved c =

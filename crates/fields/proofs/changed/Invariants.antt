@@ -1,6 +1,5 @@
 -- `changed` meets its contract: m is the map of fields i and up. Assumes nothing.
-use native.Mathlib.Omega.{arith}
-use Rattle.fields.proofs.FieldLaw.{Changing, changed_starts, changed_below, changed_fits, changed_turn, changed_done}
+use Rattle.fields.proofs.FieldLaw.{Changing}
 use Rattle.fields.proofs.changed.Given as goal
 
 abbrev pub invariant-loop-i : goal.invariant-loop-i

@@ -1,6 +1,5 @@
 -- `map_of` meets its contract: m is the map of fields i and up. Assumes nothing.
-use native.Mathlib.Omega.{arith}
-use Rattle.fields.proofs.FieldLaw.{Mapping, map_starts, map_fits, map_turn, map_done}
+use Rattle.fields.proofs.FieldLaw.{Mapping}
 use Rattle.fields.proofs.map_of.Given as goal
 
 abbrev pub invariant-loop-i : goal.invariant-loop-i

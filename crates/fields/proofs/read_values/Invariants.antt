@@ -1,8 +1,7 @@
 -- `read_values` meets its contract: fields 0 to i are read. Assumes nothing.
 use Prim.Native.Nat.{◌-◌}
-use native.Mathlib.Omega.{arith}
-use lib.ListN.{length, length-set}
-use Rattle.fields.proofs.FieldLaw.{Reading, read_none, read_starts, read_room, read_part, read_turn, read_keeps, read_done, read_place}
+use lib.ListN.{length}
+use Rattle.fields.proofs.FieldLaw.{Reading}
 use Rattle.fields.proofs.read_values.Given as goal
 
 abbrev pub invariant-loop-i : goal.invariant-loop-i

@@ -1,8 +1,7 @@
 -- `write_values` meets its contract: fields 0 to i are written. Assumes nothing.
 use Prim.Native.Nat.{◌-◌}
-use native.Mathlib.Omega.{arith}
 use lib.ListN.{length}
-use Rattle.fields.proofs.FieldLaw.{Writing, rest_back, write_none, write_starts, write_room, write_part, write_turn, write_skips, write_done, write_place}
+use Rattle.fields.proofs.FieldLaw.{Writing}
 use Rattle.fields.proofs.write_values.Given as goal
 
 abbrev pub invariant-loop-i : goal.invariant-loop-i

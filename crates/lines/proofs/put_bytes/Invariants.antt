@@ -1,8 +1,7 @@
 -- `put_bytes` meets its contract: the first i bytes are copied. Assumes nothing.
 use Prim.Native.Nat.{◌-◌}
-use native.Mathlib.Omega.{arith}
 use lib.ListN.{length}
-use Rattle.lines.proofs.PutLaw.{Copying, copy_starts, copy_turn, copy_done}
+use Rattle.lines.proofs.PutLaw.{Copying}
 use Rattle.lines.proofs.put_bytes.Given as goal
 
 abbrev pub invariant-loop-i : goal.invariant-loop-i

@@ -1,8 +1,5 @@
 -- `put_decimal` meets its contract: the digits from i on are written, v is what is left of the number. Assumes nothing.
-use native.Mathlib.Omega.{arith}
-use borrow.Author.Rules.{rules}
-use Rattle.lines.proofs.TextLaw.{decimal_puts}
-use Rattle.lines.proofs.DigitLaw.{Digits, digits_start, digits_turn, digits_done}
+use Rattle.lines.proofs.DigitLaw.{Digits}
 use Rattle.lines.proofs.put_decimal.Given as goal
 
 abbrev pub invariant-loop-i : goal.invariant-loop-i

@@ -1,6 +1,5 @@
 -- `put_hex` meets its contract: the digits from i on are written, v is what is left of the number. Assumes nothing.
-use native.Mathlib.Omega.{arith}
-use Rattle.lines.proofs.DigitLaw.{Digits, digits_start, digits_turn, digits_done}
+use Rattle.lines.proofs.DigitLaw.{Digits}
 use Rattle.lines.proofs.put_hex.Given as goal
 
 abbrev pub invariant-loop-i : goal.invariant-loop-i

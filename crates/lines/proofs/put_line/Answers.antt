@@ -1,206 +1,45 @@
 -- `put_line` meets its contract: what stands after each piece. Assumes nothing.
-use mathlib.Core.List.{◌++◌}
-use Prim.Native.Nat.{◌+◌, ◌-◌}
+use mathlib.Core.List.{List, ◌++◌}
+use Prim.Native.Nat.{ℕ, ◌+◌, ◌-◌, ◌≤◌}
 use native.Mathlib.Omega.{arith}
 use borrow.Rule.Slice.PartMut.{put_mid}
-use lib.ListN.{length}
-use borrow.Author.Rules.{rules}
-use Rattle.lines.specs.Line.{subject, words, numbers}
+use lib.ListN.{length, take, drop}
+use Rattle.lines.specs.declared.Line.{Line}
+use Rattle.lines.specs.Line.{subject, words, text, Puts}
 use Rattle.lines.proofs.PutLaw.{Wrote, wrote_first, wrote_rest, wrote_byte, room_after}
 use Rattle.lines.proofs.TextLaw.{text_long, line_put}
 use Rattle.lines.proofs.put_line.Goals as goal
-use Rattle.lines.proofs.put_line.Goals.{After-slice_known-2-1, After-slice_known-3-1}
 
 -- what stands after the subject, after the words and after the numbers
-subject-put : (c : After-slice_known-2-1)
-    → Wrote c.args.part.now c.put_subject-a.new.0
-    c.put_subject-a.result (subject c.args.l.number)
-subject-put c =
-    wrote_first c.put_subject-a.ensures
-    (omega (
-      arith,
-      text_long c.args.l,
-      c.requires,
-    ))
+module _ {part a : List ℕ} {r : ℕ} (l : Line) (h : length (text l) ≤ length part) (e : Puts (subject l.number) part a r) where
+  subject_put : Wrote part a r (subject l.number)
+  subject_put = wrote_first e (omega (arith, text_long l))
 
-words-put : (c : After-slice_known-3-1)
-    → Wrote c.args.part.now
-    (put_mid c.put_subject-a.result
-    (length c.put_subject-a.new.0
-    - c.put_subject-a.result)
-    c.put_subject-a.new.0 c.put_words.new.0)
-    (c.put_subject-a.result + c.put_words.result)
-    (subject c.args.l.number
-    ++ words c.args.l.first
-    c.args.l.second)
-words-put c =
-    wrote_rest (subject-put c.before.before.before.before) _ _ _
-    (omega (
-      arith,
-      subject-put c.before.before.before.before,
-      text_long c.args.l,
-      c.requires,
-    )) c.put_words.ensures
+  module _ {b : List ℕ} {n : ℕ} (f : Puts (words l.first l.second) (take (length a - r) (drop r a)) b n) where
+    words_put : Wrote part (put_mid r (length a - r) a b) (r + n) (subject l.number ++ words l.first l.second)
+    words_put = wrote_rest subject_put _ _ _ (omega (arith, subject_put, text_long l)) f
 
 pub put_subject-a-requires : goal.put_subject-a-requires
-put_subject-a-requires c = omega (arith, text_long c.args.l, c.requires)
-
-pub slice_bounds-put_words-count : goal.slice_bounds-put_words-count
-slice_bounds-put_words-count c = omega (arith, subject-put c, text_long c.args.l, c.requires)
-
-pub slice_bounds-put_words-start : goal.slice_bounds-put_words-start
-slice_bounds-put_words-start c =
-    omega (
-      arith,
-      subject-put c,
-      text_long c.args.l,
-      c.requires,
-    )
+put_subject-a-requires c = omega (arith, text_long c.args.l)
 
 pub put_words-requires : goal.put_words-requires
 put_words-requires c =
-    room_after (subject-put c.before) _ (omega (
-      arith,
-      subject-put c.before,
-      text_long c.args.l,
-      c.requires,
-    ))
-
-pub overflow_add-b : goal.overflow_add-b
-overflow_add-b c =
-    omega (
-      arith,
-      (words-put c).place,
-      (words-put c).long,
-      text_long c.args.l,
-      c.requires,
-    )
-
-pub slice_bounds-put_numbers-count : goal.slice_bounds-put_numbers-count
-slice_bounds-put_numbers-count c =
-    omega (
-      arith,
-      words-put c,
-      text_long c.args.l,
-      c.requires,
-    )
-
-pub slice_bounds-put_numbers-start : goal.slice_bounds-put_numbers-start
-slice_bounds-put_numbers-start c =
-    omega (
-      arith,
-      words-put c,
-      text_long c.args.l,
-      c.requires,
-    )
+    let s = subject_put c.args.l c.requires.1 c.put_subject-a.ensures in
+    room_after s _ (omega (arith, s, text_long c.args.l))
 
 pub put_numbers-requires : goal.put_numbers-requires
-put_numbers-requires c = (
-  c.requires.0,
-  room_after (words-put c.before) _ (omega (
-    arith,
-    words-put c.before,
-    text_long c.args.l,
-    c.requires,
-  )),
-)
-
-pub overflow_add-e : goal.overflow_add-e
-overflow_add-e c =
-    let f =
-    wrote_rest (words-put c.before.before.before.before) _ _ _
-    (omega (
-      arith,
-      (words-put c.before.before.before.before).place,
-      text_long
-          c.args.l,
-      c.requires,
-    )) c.put_numbers.ensures in
-    omega (
-      arith,
-      f.place,
-      f.long,
-      text_long
-          c.args.l,
-      c.requires,
-    )
+put_numbers-requires c =
+    let w = words_put c.args.l c.requires.1 c.put_subject-a.ensures c.put_words.ensures in
+    (c.requires.0, room_after w _ (omega (arith, w.place, w.long, text_long c.args.l)))
 
 pub bounds-part-e : goal.bounds-part-e
 bounds-part-e c =
-    let f =
-    wrote_rest (words-put c.before.before.before.before) _ _ _
-    (omega (
-      arith,
-      (words-put c.before.before.before.before).place,
-      text_long
-          c.args.l,
-      c.requires,
-    )) c.put_numbers.ensures in
-    omega (
-      arith,
-      f.place,
-      f.long,
-      text_long
-          c.args.l,
-      c.requires,
-    )
-
-pub overflow_add-result : goal.overflow_add-result
-overflow_add-result c =
-    let f =
-    wrote_rest (words-put c.before.before.before.before) _ _ _
-    (omega (
-      arith,
-      (words-put c.before.before.before.before).place,
-      text_long
-          c.args.l,
-      c.requires,
-    )) c.put_numbers.ensures in
-    omega (
-      arith,
-      f.place,
-      f.long,
-      text_long
-          c.args.l,
-      c.requires,
-    )
-
-pub shape_of-part : goal.shape_of-part
-shape_of-part c =
-    let f =
-    wrote_rest (words-put c.before.before.before.before) _ _ _
-    (omega (
-      arith,
-      (words-put c.before.before.before.before).place,
-      text_long
-          c.args.l,
-      c.requires,
-    )) c.put_numbers.ensures in
-    (wrote_byte f 10 (omega (
-      arith,
-      f.place,
-      f.long,
-      text_long
-          c.args.l,
-      c.requires,
-    ))).long
+    let w = words_put c.args.l c.requires.1 c.put_subject-a.ensures c.put_words.ensures in
+    let t = wrote_rest w _ _ _ (omega (arith, w.place, text_long c.args.l)) c.put_numbers.ensures in
+    omega (arith, t.place, t.long, text_long c.args.l)
 
 pub returns : goal.returns
 returns c =
-    let f =
-    wrote_rest (words-put c.before.before.before.before) _ _ _
-    (omega (
-      arith,
-      (words-put c.before.before.before.before).place,
-      text_long
-          c.args.l,
-      c.requires,
-    )) c.put_numbers.ensures in
-    line_put _ (wrote_byte f 10 (omega (
-      arith,
-      f.place,
-      f.long,
-      text_long
-          c.args.l,
-      c.requires,
-    )))
+    let w = words_put c.args.l c.requires.1 c.put_subject-a.ensures c.put_words.ensures in
+    let t = wrote_rest w _ _ _ (omega (arith, w.place, text_long c.args.l)) c.put_numbers.ensures in
+    line_put _ (wrote_byte t 10 (omega (arith, t.place, t.long, text_long c.args.l)))

@@ -1,7 +1,6 @@
 -- `put_refusal` meets its contract. Assumes nothing.
 use native.Mathlib.Omega.{arith}
 use lib.ListN.{length-set}
-use borrow.Author.Rules.{rules}
 use Rattle.lines.proofs.PutLaw.{wrote_all}
 use Rattle.lines.proofs.TextLaw.{refusal_fits, refusal_room, refusal_zero, refusal_puts}
 use Rattle.lines.proofs.put_refusal.Goals as goal
@@ -20,19 +19,6 @@ slice_bounds-put_decimal-start c = simp length-set (omega (arith, refusal_fits _
 
 pub put_decimal-requires : goal.put_decimal-requires
 put_decimal-requires c = refusal_room _ c.args.part.now c.if-number-eq0.false c.requires
-
-pub overflow_add-result : goal.overflow_add-result
-overflow_add-result c =
-    omega (
-      arith,
-      refusal_fits _ _ c.if-number-eq0.false c.requires,
-      c.put_decimal.ensures.size,
-    )
-
-pub shape_of-part : goal.shape_of-part
-shape_of-part c =
-    (refusal_puts _ c.args.part.now _ _ c.if-number-eq0.false
-    c.requires c.put_decimal.ensures).long
 
 pub returns : goal.returns
 returns c =

@@ -1,5 +1,4 @@
 -- `put_subject` meets its contract. Assumes nothing.
-use borrow.Author.Rules.{rules}
 use Rattle.lines.proofs.TextLaw.{config_fits, config_puts, number_fits, number_puts}
 use Rattle.lines.proofs.put_subject.Goals as goal
 

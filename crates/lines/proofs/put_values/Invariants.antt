@@ -1,8 +1,6 @@
 -- `put_values` meets its contract: the first i values are written. Assumes nothing.
 use Prim.Native.Nat.{◌-◌}
-use native.Mathlib.Omega.{arith}
-use lib.ListN.{length-set}
-use Rattle.lines.proofs.TextLaw.{hex_size, Listing, list_starts, list_room, list_turn, list_done}
+use Rattle.lines.proofs.TextLaw.{Listing}
 use Rattle.lines.proofs.put_values.Given as goal
 
 abbrev pub invariant-loop-i : goal.invariant-loop-i

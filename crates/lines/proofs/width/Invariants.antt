@@ -1,6 +1,5 @@
 -- `width` meets its contract: v is the number without its k - 1 lowest digits. Assumes nothing.
-use native.Mathlib.Omega.{arith}
-use Rattle.lines.proofs.DigitLaw.{Width, width_starts, width_turn, width_done}
+use Rattle.lines.proofs.DigitLaw.{Width}
 use Rattle.lines.proofs.width.Given as goal
 
 abbrev pub invariant-loop-v : goal.invariant-loop-v

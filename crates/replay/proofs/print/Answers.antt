@@ -18,7 +18,7 @@ printed : (c : After-slice_known-then-write-1)
     (put_mid c.args.to
     (length c.args.out.now
     - c.args.to) c.args.out.now
-    c.put_line.new.0)
+    c.put_line.new.part)
     (c.args.to + c.put_line.result)
 printed c =
     print_writes _ _ _ _ _ _ c.if-write.true

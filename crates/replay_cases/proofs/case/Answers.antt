@@ -6,7 +6,7 @@ use Rattle.replay_cases.proofs.case.Goals as goal
 
 pub slice_bounds-agrees-end : goal.slice_bounds-agrees-end
 slice_bounds-agrees-end c =
-    front_long c.read_file-n.new.1.0 _
+    front_long c.read_file-n.new.room _
     (omega (
       arith,
       c.read_file-n.ensures,
@@ -15,5 +15,5 @@ slice_bounds-agrees-end c =
 
 pub slice_bounds-agrees-end-2 : goal.slice_bounds-agrees-end-2
 slice_bounds-agrees-end-2 c =
-    front_long c.read_file-m.new.1.0 _
+    front_long c.read_file-m.new.room _
     (omega (arith, c.read_file-m.ensures, c.read_file-m.auto.1.0))

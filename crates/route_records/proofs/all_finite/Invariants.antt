@@ -1,9 +1,6 @@
 -- `all_finite` meets its contract: numbers 0 to i are finite. Assumes nothing.
 use Prim.Native.Nat.{◌-◌}
-use native.Mathlib.Omega.{arith}
-use mathlib.Core.Path.{sym, ◌∙◌}
-use borrow.Author.Tests.{not-true, not-false}
-use Rattle.route_records.proofs.NumbersLaw.{Testing, test_starts, test_fails, test_turn, test_done}
+use Rattle.route_records.proofs.NumbersLaw.{Testing}
 use Rattle.route_records.proofs.all_finite.Given as goal
 
 abbrev pub invariant-loop-i : goal.invariant-loop-i

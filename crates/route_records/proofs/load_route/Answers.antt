@@ -1,7 +1,6 @@
 -- `load_route` meets its contract: what the maps gave, and then the points. Assumes nothing.
 use mathlib.Core.Path.{sym, ◌∙◌}
 use Rattle.route_records.proofs.RecordLaw.{maps_refused, maps_given}
-use borrow.Author.Rules.{rules}
 use Rattle.route_records.proofs.load_route.Goals as goal
 
 pub returns-in-Refused : goal.returns-in-Refused

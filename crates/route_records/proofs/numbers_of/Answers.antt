@@ -1,7 +1,6 @@
 -- `numbers_of` meets its contract. Assumes nothing.
 use native.Mathlib.Omega.{arith}
 use Rattle.route_records.specs.Record.{number_count}
-use borrow.Author.Rules.{rules}
 use Rattle.route_records.proofs.numbers_of.Goals as goal
 
 pub returns : goal.returns

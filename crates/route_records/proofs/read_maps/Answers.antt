@@ -2,7 +2,6 @@
 use mathlib.Core.Path.{◌∙◌}
 use native.Mathlib.Omega.{arith}
 use Rattle.route_records.proofs.MapsLaw.{first_cut, stands_alone, second_cut, has_second}
-use borrow.Author.Rules.{rules}
 use Rattle.route_records.proofs.read_maps.Goals as goal
 
 pub returns-then-s-at : goal.returns-then-s-at

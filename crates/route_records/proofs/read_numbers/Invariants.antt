@@ -1,8 +1,7 @@
 -- `read_numbers` meets its contract: numbers 0 to i are read. Assumes nothing.
 use Prim.Native.Nat.{◌-◌}
-use native.Mathlib.Omega.{arith}
-use lib.ListN.{length, length-set}
-use Rattle.route_records.proofs.NumbersLaw.{Reading, read_starts, read_turn, read_done}
+use lib.ListN.{length}
+use Rattle.route_records.proofs.NumbersLaw.{Reading}
 use Rattle.route_records.proofs.read_numbers.Given as goal
 
 abbrev pub invariant-loop-i : goal.invariant-loop-i

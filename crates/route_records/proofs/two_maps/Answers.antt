@@ -3,7 +3,6 @@ use mathlib.Core.Path.{◌≡◌}
 use native.Mathlib.Omega.{arith}
 use borrow.Author.Tests.{le-ltb, lt-ltb, eq-eqb, ne_eqb}
 use Rattle.route_records.specs.Record.{two_maps}
-use borrow.Author.Rules.{rules}
 use Rattle.route_records.proofs.two_maps.Goals as goal
 
 pub returns-then-second-ge-SECOND : goal.returns-then-second-ge-SECOND

@@ -1,11 +1,7 @@
 -- `write_maps` meets its contract. Assumes nothing.
 use native.Mathlib.Omega.{arith}
 use Rattle.route_records.proofs.MapsLaw.{is_one, is_two, eight, length_kept, second_fits, wrote_one, wrote_two}
-use borrow.Author.Rules.{rules}
 use Rattle.route_records.proofs.write_maps.Goals as goal
-
-pub write_number-requires : goal.write_number-requires
-write_number-requires c = omega (arith, c.if-size-eq4.true, c.requires.1)
 
 pub write_number-requires-else-size-eq4 : goal.write_number-requires-else-size-eq4
 write_number-requires-else-size-eq4 c =
@@ -13,7 +9,7 @@ write_number-requires-else-size-eq4 c =
     let p = c.requires in
     let h = is_two a.map a.size p.0 c.if-size-eq4.false in
     let room = rw p.0 at p.1 in
-    omega (arith, eight a.part-1.now a.map h room)
+    omega (arith, eight a.part.now a.map h room)
 
 pub slice_bounds-write_number-count : goal.slice_bounds-write_number-count
 slice_bounds-write_number-count c =
@@ -21,7 +17,7 @@ slice_bounds-write_number-count c =
     let p = c.requires in
     let h = is_two a.map a.size p.0 c.if-size-eq4.false in
     let room = rw p.0 at p.1 in
-    omega (arith, eight a.part-1.now a.map h room, length_kept a.part-1.now a.map h room _ c.write_number-else-size-eq4.ensures)
+    omega (arith, eight a.part.now a.map h room, length_kept a.part.now a.map h room _ c.write_number-else-size-eq4.ensures)
 
 pub slice_bounds-write_number-start : goal.slice_bounds-write_number-start
 slice_bounds-write_number-start c =
@@ -29,7 +25,7 @@ slice_bounds-write_number-start c =
     let p = c.requires in
     let h = is_two a.map a.size p.0 c.if-size-eq4.false in
     let room = rw p.0 at p.1 in
-    omega (arith, eight a.part-1.now a.map h room, length_kept a.part-1.now a.map h room _ c.write_number-else-size-eq4.ensures)
+    omega (arith, eight a.part.now a.map h room, length_kept a.part.now a.map h room _ c.write_number-else-size-eq4.ensures)
 
 pub write_number-requires-else-size-eq4-2 : goal.write_number-requires-else-size-eq4-2
 write_number-requires-else-size-eq4-2 c =
@@ -37,7 +33,7 @@ write_number-requires-else-size-eq4-2 c =
     let p = c.requires in
     let h = is_two a.map a.size p.0 c.if-size-eq4.false in
     let room = rw p.0 at p.1 in
-    second_fits a.part-1.now a.map h room _ c.write_number-else-size-eq4.ensures
+    second_fits a.part.now a.map h room _ c.write_number-else-size-eq4.ensures
 
 pub returns-then-size-eq4 : goal.returns-then-size-eq4
 returns-then-size-eq4 c =
@@ -51,4 +47,4 @@ returns-else-size-eq4 c =
     let p = c.requires in
     let h = is_two a.map a.size p.0 c.if-size-eq4.false in
     let room = rw p.0 at p.1 in
-    wrote_two a.part-1.now a.map h room _ c.write_number-else-size-eq4.ensures _ c.write_number-else-size-eq4-2.ensures
+    wrote_two a.part.now a.map h room _ c.write_number-else-size-eq4.ensures _ c.write_number-else-size-eq4-2.ensures

@@ -1,9 +1,7 @@
 -- `write_numbers` meets its contract: numbers 0 to i are written. Assumes nothing.
 use Prim.Native.Nat.{◌-◌}
-use native.Mathlib.Omega.{arith}
 use lib.ListN.{length}
-use Rattle.fields.proofs.FieldLaw.{rest_back}
-use Rattle.route_records.proofs.NumbersLaw.{Writing, write_starts, write_room, write_part, write_turn, write_done}
+use Rattle.route_records.proofs.NumbersLaw.{Writing}
 use Rattle.route_records.proofs.write_numbers.Given as goal
 
 abbrev pub invariant-loop-i : goal.invariant-loop-i

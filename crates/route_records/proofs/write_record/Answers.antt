@@ -2,7 +2,6 @@
 use native.Mathlib.Omega.{arith}
 use mathlib.Core.Path.{sym}
 use Rattle.fields.proofs.FieldLaw.{put_after}
-use borrow.Author.Rules.{rules}
 use Rattle.route_records.specs.Record.{maps_bytes}
 use Rattle.route_records.proofs.write_record.Goals as goal
 
@@ -10,5 +9,5 @@ pub returns : goal.returns
 returns c =
     let a = c.args in
     let e = c.requires.0 in
-    put_after _ a.part-1.now c.write_maps.new.0 _ (maps_bytes a.map) _ (sym e)
+    put_after _ a.part.now c.write_maps.new.part _ (maps_bytes a.map) _ (sym e)
     (omega (arith, c.requires.1)) (rw e c.write_maps.ensures) c.write_numbers.ensures

@@ -1,7 +1,6 @@
 use native.Mathlib.Omega.{arith}
 use borrow.Author.Tests.{le-leb, lt-leb, eq-eqb, ne_eqb}
 use Rattle.routes.specs.Route.{counted}
-use borrow.Author.Rules.{rules}
 use Rattle.routes.proofs.counted.Goals as goal
 
 pub returns-then-n-eq0 : goal.returns-then-n-eq0

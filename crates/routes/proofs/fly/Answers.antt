@@ -1,8 +1,6 @@
 use native.Mathlib.Omega.{arith}
-use Prim.Native.Nat.{◌≤◌, ◌*◌}
 use Rattle.routes.specs.Route.{fly}
 use Rattle.routes.proofs.PointsLaw.{positive, nothing, lent_gives}
-use borrow.Author.Rules.{rules}
 use Rattle.routes.proofs.fly.Goals as goal
 
 pub returns-then-refusal-gt0 : goal.returns-then-refusal-gt0

@@ -1,5 +1,4 @@
 use Rattle.routes.specs.Route.{is_near}
-use borrow.Author.Rules.{rules}
 use Rattle.routes.proofs.is_near.Goals as goal
 
 pub returns : goal.returns

@@ -1,5 +1,4 @@
 use Rattle.routes.specs.Route.{is_passed}
-use borrow.Author.Rules.{rules}
 use Rattle.routes.proofs.is_passed.Goals as goal
 
 pub returns : goal.returns

@@ -1,5 +1,4 @@
 use Rattle.routes.proofs.PointsLaw.{lent_map, lent_short, lent_whole}
-use borrow.Author.Rules.{rules}
 use Rattle.routes.proofs.lent_refusal.Goals as goal
 
 pub returns-then-refusal-gt0 : goal.returns-then-refusal-gt0

@@ -1,6 +1,5 @@
 use native.Mathlib.Omega.{arith}
 use Rattle.routes.proofs.PointsLaw.{meets_first, meets_leg, meets_past}
-use borrow.Author.Rules.{rules}
 use Rattle.routes.proofs.meets.Goals as goal
 
 pub returns-then-n-eq1 : goal.returns-then-n-eq1

@@ -1,6 +1,5 @@
 use native.Mathlib.Omega.{arith}
 use Rattle.routes.specs.Route.{reached}
-use borrow.Author.Rules.{rules}
 use Rattle.routes.proofs.reached.Goals as goal
 
 pub returns-then-meets : goal.returns-then-meets

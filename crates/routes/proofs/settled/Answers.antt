@@ -1,5 +1,4 @@
 use Rattle.routes.specs.Route.{settled}
-use borrow.Author.Rules.{rules}
 use Rattle.routes.proofs.settled.Goals as goal
 
 pub returns-then-is_accepted : goal.returns-then-is_accepted

@@ -1,6 +1,5 @@
 use native.Mathlib.Omega.{arith}
 use Rattle.routes.proofs.PointsLaw.{waypoint_first, waypoint_leg, waypoint_past}
-use borrow.Author.Rules.{rules}
 use Rattle.routes.proofs.waypoint_for.Goals as goal
 
 pub returns-then-n-eq1 : goal.returns-then-n-eq1

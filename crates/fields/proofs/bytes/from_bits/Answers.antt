@@ -1,7 +1,6 @@
 -- `bytes::from_bits` meets its contract, by whether the bits are a NaN's. Assumes nothing.
 use mathlib.Core.Path.{sym, ◌∙◌}
 use borrow.Author.Tests.{lt-ltb, le-ltb}
-use borrow.Author.Rules.{rules}
 use Rattle.fields.proofs.NumberLaw.{nan_bits_lem, no_nan_bits, zero_over_zero, not-false}
 use Rattle.fields.proofs.bytes.from_bits.Goals as goal
 

@@ -1,6 +1,5 @@
 -- `bytes::read_number` meets its contract: v is the number of bytes i to n. Assumes nothing.
-use native.Mathlib.Omega.{arith}
-use Rattle.fields.proofs.NumberLaw.{Reading, read_starts, read_fits, read_turn, read_done}
+use Rattle.fields.proofs.NumberLaw.{Reading}
 use Rattle.fields.proofs.bytes.read_number.Given as goal
 
 abbrev pub invariant-loop-i : goal.invariant-loop-i

@@ -3,7 +3,6 @@ use mathlib.Core.Path.{◌∙◌, sym, ap, subst}
 use lib.Dec.{T}
 use lib.Ieee.{binary32, to_bits}
 use lib.Ieee.Compare.{differs_from_itself}
-use borrow.Author.Rules.{rules}
 use Rattle.fields.proofs.NumberLaw.{same_no_nan, bits_of_nan, not-false}
 use Rattle.fields.proofs.bytes.to_bits.Goals as goal
 

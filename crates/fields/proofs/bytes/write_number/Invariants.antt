@@ -1,7 +1,6 @@
 -- `bytes::write_number` meets its contract: bytes 0 to i are written, v is what is left of the number. Assumes nothing.
 use Prim.Native.Nat.{◌-◌}
-use native.Mathlib.Omega.{arith}
-use Rattle.fields.proofs.NumberLaw.{Writing, write_starts, write_turn, write_done}
+use Rattle.fields.proofs.NumberLaw.{Writing}
 use Rattle.fields.proofs.bytes.write_number.Given as goal
 
 abbrev pub invariant-loop-i : goal.invariant-loop-i

@@ -1,10 +1,8 @@
 -- `numbers::floats` meets its contract. Assumes nothing.
 use Prim.Native.Nat.{◌-◌}
-use native.Mathlib.Omega.{arith}
 use lib.ListN.{length}
 use lib.Ieee.{binary32, of_bits}
-use Rattle.fields.specs.Numbers.{floats_of}
-use Rattle.fields.proofs.MapLaw.{Mapped, starts, turn, done}
+use Rattle.fields.proofs.MapLaw.{Mapped}
 use Rattle.fields.proofs.numbers.floats.Given as goal
 
 abbrev pub invariant-loop-i : goal.invariant-loop-i

@@ -1,12 +1,12 @@
 -- `numbers::read_all` meets its contract: f32s 0 to i are read. Assumes nothing.
-use mathlib.Core.Path.{◌≡◌, refl, sym, ap, ◌∙◌}
+use mathlib.Core.Path.{◌≡◌}
 use mathlib.Core.List.{List}
 use Prim.Native.Nat.{ℕ, ◌+◌, ◌-◌, ◌/◌, ◌%◌, ◌<◌}
 use native.Mathlib.Omega.{arith}
 use native.Mathlib.Nat.{sub-zero}
 use lib.Ieee.{Float}
-use lib.ListN.{length, length-set}
-use Rattle.fields.proofs.FloatLaw.{Floating, full, left_odd, left_half, ones_full, float_starts, float_room, float_part, float_turn, float_done}
+use lib.ListN.{length}
+use Rattle.fields.proofs.FloatLaw.{Floating, full, left_odd, left_half, ones_full, float_starts, float_part, float_turn, float_done}
 use Rattle.fields.proofs.numbers.read_all.Goals as goal
 
 -- while f32s are left, the lowest bit of the map that is left stands, and its half is the map that is left then
@@ -22,39 +22,10 @@ loop-i-init c =
     let n = length c.args.v.now in
     rw (sub-zero n) (float_starts _ _ (full n) n _ p.0 (rw (ones_full n) p.1))
 
-pub slice_bounds-read_number-count : goal.slice_bounds-read_number-count
-slice_bounds-read_number-count c =
-    let f = c.loop-i.invariant in
-    omega (arith, float_room f c.loop-i-test.true (odd f c.loop-i-test.true))
-
-pub slice_bounds-read_number-start : goal.slice_bounds-read_number-start
-slice_bounds-read_number-start c = omega arith
-
-pub slice_bounds-read_number-end : goal.slice_bounds-read_number-end
-slice_bounds-read_number-end c = omega arith
-
 pub read_number-requires : goal.read_number-requires
 read_number-requires c =
     let f = c.loop-i.invariant in
     (omega arith, float_part f c.loop-i-test.true (odd f c.loop-i-test.true))
-
-pub overflow_cast-read_number : goal.overflow_cast-read_number
-overflow_cast-read_number c = omega (arith, c.read_number.ensures.1)
-
-pub offset_bounds-v-i : goal.offset_bounds-v-i
-offset_bounds-v-i c = omega arith
-
-pub bounds-v-i : goal.bounds-v-i
-bounds-v-i c = omega arith
-
-pub overflow_add-at : goal.overflow_add-at
-overflow_add-at c = omega arith
-
-pub overflow_add-i : goal.overflow_add-i
-overflow_add-i c = omega arith
-
-pub loop-i-smaller : goal.loop-i-smaller
-loop-i-smaller c = simp length-set (omega arith)
 
 pub loop-i-preserved : goal.loop-i-preserved
 loop-i-preserved c =
@@ -62,9 +33,6 @@ loop-i-preserved c =
     let f = n.loop-i.invariant in
     let h = n.loop-i-test.true in
     rw (half f h) at (float_turn f h (odd f h) n.read_number.result n.read_number.ensures.0 c.from_bits.result c.from_bits.ensures)
-
-pub shape_of-v : goal.shape_of-v
-shape_of-v c = c.loop-i.invariant.long
 
 pub returns : goal.returns
 returns c =

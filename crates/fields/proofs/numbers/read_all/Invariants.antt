@@ -1,12 +1,7 @@
 -- `numbers::read_all` meets its contract: f32s 0 to i are read. Assumes nothing.
-use mathlib.Core.Path.{◌≡◌, refl, sym, ap, ◌∙◌}
-use mathlib.Core.List.{List}
-use Prim.Native.Nat.{ℕ, ◌+◌, ◌-◌, ◌/◌, ◌%◌, ◌<◌}
-use native.Mathlib.Omega.{arith}
-use native.Mathlib.Nat.{sub-zero}
-use lib.Ieee.{Float}
-use lib.ListN.{length, length-set}
-use Rattle.fields.proofs.FloatLaw.{Floating, full, left_odd, left_half, ones_full, float_starts, float_room, float_part, float_turn, float_done}
+use Prim.Native.Nat.{◌-◌}
+use lib.ListN.{length}
+use Rattle.fields.proofs.FloatLaw.{Floating, full}
 use Rattle.fields.proofs.numbers.read_all.Given as goal
 
 abbrev pub invariant-loop-i : goal.invariant-loop-i

@@ -1,8 +1,7 @@
 -- `numbers::read_floats` meets its contract: f32s 0 to i are read. Assumes nothing.
 use Prim.Native.Nat.{◌-◌}
-use native.Mathlib.Omega.{arith}
-use lib.ListN.{length, length-set}
-use Rattle.fields.proofs.FloatLaw.{Floating, float_none, float_starts, float_room, float_part, float_turn, float_keeps, float_done}
+use lib.ListN.{length}
+use Rattle.fields.proofs.FloatLaw.{Floating}
 use Rattle.fields.proofs.numbers.read_floats.Given as goal
 
 abbrev pub invariant-loop-i : goal.invariant-loop-i

@@ -1,8 +1,5 @@
 -- `numbers::read_group` meets its contract. Assumes nothing.
 use mathlib.Core.Path.{◌∙◌}
-use native.Mathlib.Omega.{arith}
-use borrow.Author.Rules.{rules}
-use lib.ListN.{length}
 use Rattle.fields.proofs.FloatLaw.{ones_full}
 use Rattle.fields.proofs.numbers.read_group.Goals as goal
 

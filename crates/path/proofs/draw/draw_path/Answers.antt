@@ -1,5 +1,3 @@
-use native.Mathlib.Omega.{arith}
-use borrow.Author.Rules.{rules}
 use borrow.Author.Tests.{eq-eqb, ne_eqb, lt-ltb, le-ltb}
 use Rattle.path.specs.Path.{answer, buffer}
 use Rattle.path.proofs.draw.draw_path.Goals as goal

@@ -1,7 +1,6 @@
 -- `draw_steps` meets its contract: the points so far stand in the buffer, and the model is the one after them. Assumes nothing.
-use Prim.Native.Nat.{◌-◌}
 use native.Mathlib.Omega.{arith}
-use Rattle.path.proofs.Drawing.{Drawing, starts, turn, halt, done, here, has_room}
+use Rattle.path.proofs.Drawing.{starts, turn, halt, done, here, has_room}
 use Rattle.path.proofs.draw.draw_steps.Goals as goal
 
 pub loop-n-init : goal.loop-n-init
@@ -43,7 +42,7 @@ loop-n-smaller c = omega (arith, c.loop-n-test.true)
 
 pub loop-n-preserved : goal.loop-n-preserved
 loop-n-preserved c =
-    turn c.loop-n.invariant c.step-s.result c.step-s.ensures c.loop-n-test.true c.if-s.true c.put_point.new.0 c.put_point.ensures
+    turn c.loop-n.invariant c.step-s.result c.step-s.ensures c.loop-n-test.true c.if-s.true c.put_point.new.part c.put_point.ensures
 
 pub overflow_add-result : goal.overflow_add-result
 overflow_add-result c = omega (arith, c.loop-n.invariant.few, c.loop-n-test.true)

@@ -1,7 +1,6 @@
 -- `draw_steps` meets its contract: the points so far stand in the buffer, and the model is the one after them. Assumes nothing.
 use Prim.Native.Nat.{◌-◌}
-use native.Mathlib.Omega.{arith}
-use Rattle.path.proofs.Drawing.{Drawing, starts, turn, halt, done, here, has_room}
+use Rattle.path.proofs.Drawing.{Drawing}
 use Rattle.path.proofs.draw.draw_steps.Given as goal
 
 abbrev pub invariant-loop-n : goal.invariant-loop-n

@@ -1,6 +1,5 @@
 use native.Mathlib.Omega.{arith}
 use lib.ListN.{length-set}
-use borrow.Author.Rules.{rules}
 use Rattle.path.proofs.Drawing.{three}
 use Rattle.path.proofs.draw.put_point.Goals as goal
 

@@ -1,4 +1,3 @@
-use borrow.Author.Rules.{rules}
 use Rattle.path.proofs.model.by_setpoint.Goals as goal
 
 pub returns-in-Plane : goal.returns-in-Plane

@@ -1,7 +1,6 @@
 -- `call::call_at` meets its contract, by the kind. Assumes nothing.
 use borrow.Author.Tests.{eq-eqb, ne_eqb}
 use lib.Dec.{lit<}
-use borrow.Author.Rules.{rules}
 use Rattle.records.specs.Call.{call_at, attitude_at, rate_at, absolute_attitude_at, absolute_rate_at}
 use Rattle.records.proofs.call.call_at.Goals as goal
 

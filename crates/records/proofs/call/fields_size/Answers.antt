@@ -1,7 +1,6 @@
 -- `call::fields_size` meets its contract. Assumes nothing.
 use Prim.Native.Nat.{◌/◌}
 use native.Mathlib.Omega.{arith}
-use borrow.Author.Rules.{rules}
 use Rattle.fields.proofs.FieldLaw.{ones_le}
 use Rattle.records.proofs.CallLaw.{counted, size_is}
 use Rattle.records.proofs.call.fields_size.Goals as goal

@@ -1,7 +1,5 @@
 -- `call::read_byte` meets its contract: the byte is read or missing. Assumes nothing.
-use mathlib.Core.Path.{◌∙◌}
 use borrow.Author.Tests.{eq-eqb, ne_eqb}
-use borrow.Author.Rules.{rules}
 use Rattle.fields.proofs.FieldLaw.{rest_is}
 use Rattle.records.proofs.CallLaw.{byte_read, byte_missing}
 use Rattle.records.proofs.call.read_byte.Goals as goal

@@ -1,8 +1,6 @@
 -- `call::read_call` meets its contract: a lemma for each outcome. Assumes nothing.
 use mathlib.Core.Path.{refl}
 use native.Mathlib.Omega.{arith}
-use borrow.Author.Tests.{not-true, not-false}
-use borrow.Author.Rules.{rules}
 use Rattle.records.proofs.CallLaw.{cut, incomplete, size_is, short, regime_room, numbers_room, kind_above, regime_above, whole}
 use Rattle.records.proofs.call.read_call.Goals as goal
 
@@ -15,13 +13,13 @@ returns-then-s-at-lt4 c = cut _ _ (omega (arith, c.if-s-at-lt4.true))
 pub returns-then-not-is_complete : goal.returns-then-not-is_complete
 returns-then-not-is_complete c =
     incomplete _ _ (omega (arith, c.if-s-at-lt4.false)) _
-    c.read_number-map.ensures.0 _ c.is_complete.ensures (not-true _ c.if-not-is_complete.true)
+    c.read_number-map.ensures.0 _ c.is_complete.ensures c.if-not-is_complete.true
 
 pub returns-then-s-at-2 : goal.returns-then-s-at-2
 returns-then-s-at-2 c =
     short _ _ (omega (arith, c.if-s-at-lt4.false)) _
     c.read_number-map.ensures.0 _ c.is_complete.ensures
-    (not-false _ c.if-not-is_complete.false) _ c.fields_size-size.ensures.0 (omega (arith, c.if-s-at-2.true))
+    c.if-not-is_complete.false _ c.fields_size-size.ensures.0 (omega (arith, c.if-s-at-2.true))
 
 pub read_byte-kind-requires : goal.read_byte-kind-requires
 read_byte-kind-requires c =
@@ -39,7 +37,7 @@ read_byte-regime-requires c =
     regime_room _ _
     (omega (arith, c.if-s-at-lt4.false)) _
     c.read_number-map.ensures.0 _ c.is_complete.ensures
-    (not-false _ c.if-not-is_complete.false) _ c.fields_size-size.ensures.0 (omega (arith, c.if-s-at-2.false)) _ _
+    c.if-not-is_complete.false _ c.fields_size-size.ensures.0 (omega (arith, c.if-s-at-2.false)) _ _
     c.read_byte-kind.ensures refl
 
 pub returns-then-kind-gt6 : goal.returns-then-kind-gt6
@@ -48,7 +46,7 @@ returns-then-kind-gt6 c =
     (omega (arith, c.if-s-at-lt4.false)) _
     c.read_number-map.ensures.0 _
     c.is_complete.ensures
-    (not-false _ c.if-not-is_complete.false) _
+    c.if-not-is_complete.false _
     c.fields_size-size.ensures.0 (omega (arith, c.if-s-at-2.false)) _ _
     c.read_byte-kind.ensures c.read_byte-regime.ensures c.if-kind-gt6.true
 
@@ -58,7 +56,7 @@ returns-then-regime-gt1 c =
     (omega (arith, c.if-s-at-lt4.false)) _
     c.read_number-map.ensures.0 _
     c.is_complete.ensures
-    (not-false _ c.if-not-is_complete.false) _
+    c.if-not-is_complete.false _
     c.fields_size-size.ensures.0
     (omega (arith, c.if-s-at-2.false)) _ _ c.read_byte-kind.ensures
     c.read_byte-regime.ensures c.if-kind-gt6.false c.if-regime-gt1.true
@@ -69,7 +67,7 @@ read_numbers-v-requires c =
     (omega (arith, c.if-s-at-lt4.false)) _
     c.read_number-map.ensures.0 _
     c.is_complete.ensures
-    (not-false _ c.if-not-is_complete.false) _
+    c.if-not-is_complete.false _
     c.fields_size-size.ensures.0
     (omega (arith, c.if-s-at-2.false)) _ _ c.read_byte-kind.ensures
     c.read_byte-regime.ensures
@@ -90,9 +88,9 @@ returns c =
     (arith, c.if-s-at-lt4.false))
     _ c.read_number-map.ensures.0 _
     c.is_complete.ensures
-    (not-false _ c.if-not-is_complete.false) _
+    c.if-not-is_complete.false _
     c.fields_size-size.ensures.0
     (omega (arith, c.if-s-at-2.false)) _ _
     c.read_byte-kind.ensures
     c.read_byte-regime.ensures c.if-kind-gt6.false
-    c.if-regime-gt1.false _ _ _ c.read_numbers-v.ensures c.regime_of.ensures c.call_at.ensures
+    c.if-regime-gt1.false _ _ _ c.read_numbers-v.ensures c.regime_of.ensures c.call_at-call.ensures

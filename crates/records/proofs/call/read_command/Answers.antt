@@ -1,7 +1,6 @@
 -- `call::read_command` meets its contract. Assumes nothing.
 use mathlib.Core.Path.{refl}
 use native.Mathlib.Omega.{arith}
-use borrow.Author.Rules.{rules}
 use Rattle.records.proofs.CallLaw.{front_ones, front_floats}
 use Rattle.records.proofs.call.read_command.Goals as goal
 

@@ -1,7 +1,6 @@
 -- `call::read_step` meets its contract. Assumes nothing.
 use mathlib.Core.Path.{refl}
 use native.Mathlib.Omega.{arith}
-use borrow.Author.Rules.{rules}
 use Rattle.records.proofs.CallLaw.{front_ones, front_floats}
 use Rattle.records.proofs.call.read_step.Goals as goal
 

@@ -1,7 +1,6 @@
 -- `call::read_waypoint` meets its contract: group after group is filled. Assumes nothing.
 use mathlib.Core.Path.{refl}
 use native.Mathlib.Omega.{arith}
-use borrow.Author.Rules.{rules}
 use Rattle.fields.proofs.GroupLaw.{asks_first, asks_floats, asks_group, filled_first, filled_more, filled_long, filled_all}
 use Rattle.records.proofs.call.read_waypoint.Goals as goal
 

@@ -1,6 +1,5 @@
 -- `call::state_of` meets its contract. Assumes nothing.
 use lib.Dec.{lit<}
-use borrow.Author.Rules.{rules}
 use Rattle.records.specs.Call.{state_at}
 use Rattle.records.proofs.call.state_of.Goals as goal
 

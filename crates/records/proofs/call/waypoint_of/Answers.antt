@@ -1,6 +1,5 @@
 -- `call::waypoint_of` meets its contract. Assumes nothing.
 use lib.Dec.{lit<}
-use borrow.Author.Rules.{rules}
 use Rattle.records.specs.Call.{waypoint_at}
 use Rattle.records.proofs.call.waypoint_of.Goals as goal
 

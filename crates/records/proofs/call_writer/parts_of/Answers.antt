@@ -1,6 +1,5 @@
 -- `call::parts_of` meets its contract, by the kind. Assumes nothing.
 use mathlib.Core.Path.{sym, ap, ◌∙◌}
-use borrow.Author.Rules.{rules}
 use Rattle.records.specs.Call.{parts_of}
 use Rattle.records.proofs.call_writer.parts_of.Goals as goal
 

@@ -1,5 +1,4 @@
 -- `call::record_of` meets its contract: a waypoint, or a command with five numbers. Assumes nothing.
-use borrow.Author.Rules.{rules}
 use Rattle.records.proofs.CallLaw.{regime_le, numbers_front, bits_after, is_record, is_command}
 use Rattle.records.proofs.call_writer.record_of.Goals as goal
 

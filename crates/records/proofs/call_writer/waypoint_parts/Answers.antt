@@ -1,5 +1,4 @@
 -- `call::waypoint_parts` meets its contract. Assumes nothing.
-use borrow.Author.Rules.{rules}
 use Rattle.records.specs.Call.{waypoint_parts}
 use Rattle.records.proofs.call_writer.waypoint_parts.Goals as goal
 

@@ -1,6 +1,5 @@
 -- `call::whole_map` meets its contract. Assumes nothing.
 use native.Mathlib.Omega.{arith}
-use borrow.Author.Rules.{rules}
 use Rattle.records.proofs.CallLaw.{copter_is}
 use Rattle.records.proofs.call_writer.whole_map.Goals as goal
 

@@ -2,7 +2,6 @@
 use mathlib.Core.Path.{◌∙◌}
 use native.Mathlib.Omega.{arith}
 use borrow.Author.Tests.{eq-eqb, ne_eqb}
-use borrow.Author.Rules.{rules}
 use Rattle.fields.specs.Bytes.{bytes_of}
 use Rattle.fields.proofs.NumberLaw.{bytes_long}
 use Rattle.fields.proofs.FieldLaw.{put_front}
@@ -12,14 +11,14 @@ use Rattle.records.proofs.call_writer.write_byte.Goals as goal
 pub returns-then-stands-eq1 : goal.returns-then-stands-eq1
 returns-then-stands-eq1 c =
     let a = c.args in (
-      put_front a.part-1.now c.write_number.new.0 a.at 1
+      put_front a.part.now c.write_number.new.part a.at 1
           (bytes_of 1 a.value) (bytes_long 1 a.value) (omega (arith, c.requires))
           c.write_number.ensures
-          ∙ byte_written a.part-1.now a.at a.stands a.value (eq-eqb _ _ c.if-stands-eq1.true),
+          ∙ byte_written a.part.now a.at a.stands a.value (eq-eqb _ _ c.if-stands-eq1.true),
       omega (arith, c.if-stands-eq1.true),
     )
 
 pub returns : goal.returns
 returns c =
     let a = c.args in
-    (byte_left a.part-1.now a.at a.stands a.value (ne_eqb _ _ c.if-stands-eq1.false), omega (arith, c.if-stands-eq1.false))
+    (byte_left a.part.now a.at a.stands a.value (ne_eqb _ _ c.if-stands-eq1.false), omega (arith, c.if-stands-eq1.false))

@@ -1,7 +1,6 @@
 -- `call::write_call` meets its contract: refused or accepted. Assumes nothing.
 use mathlib.Core.Path.{◌∙◌}
 use native.Mathlib.Omega.{arith}
-use borrow.Author.Rules.{rules}
 use Rattle.fields.proofs.WriteLaw.{refused, accepted}
 use Rattle.records.specs.Call.{call_record}
 use Rattle.records.proofs.CallLaw.{record_is, record_long}

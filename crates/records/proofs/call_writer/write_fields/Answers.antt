@@ -1,6 +1,5 @@
 -- `call::write_fields` meets its contract. Assumes nothing.
 use native.Mathlib.Omega.{arith}
-use borrow.Author.Rules.{rules}
 use Rattle.records.proofs.CallLaw.{size_is, fields_written}
 use Rattle.records.proofs.call_writer.write_fields.Goals as goal
 
@@ -10,7 +9,7 @@ write_byte-second-requires c =
       arith,
       c.requires.0,
       size_is c.args.map,
-      c.write_number.auto.0,
+      c.write_number.auto.part,
     )
 
 pub write_byte-third-requires : goal.write_byte-third-requires
@@ -19,8 +18,8 @@ write_byte-third-requires c =
       arith,
       c.requires.0,
       size_is c.args.map,
-      c.write_number.auto.0,
-      c.write_byte-second.auto.0,
+      c.write_number.auto.part,
+      c.write_byte-second.auto.part,
       c.write_byte-second.ensures.1,
     )
 
@@ -30,10 +29,10 @@ write_numbers-requires c = (
     arith,
     c.requires.0,
     size_is c.args.map,
-    c.write_number.auto.0,
-    c.write_byte-second.auto.0,
+    c.write_number.auto.part,
+    c.write_byte-second.auto.part,
     c.write_byte-second.ensures.1,
-    c.write_byte-third.auto.0,
+    c.write_byte-third.auto.part,
     c.write_byte-third.ensures.1,
   ),
   c.requires.1,
@@ -42,10 +41,10 @@ write_numbers-requires c = (
 pub returns : goal.returns
 returns c =
     let a = c.args in
-    fields_written a.part-1.now
-    c.write_number.new.0
-    c.write_byte-second.new.0
-    c.write_byte-third.new.0 _ a.map a.kind a.regime _ _ a.v.now
+    fields_written a.part.now
+    c.write_number.new.part
+    c.write_byte-second.new.part
+    c.write_byte-third.new.part _ a.map a.kind a.regime _ _ a.v.now
     c.requires.0
     c.requires.1
     c.write_number.ensures

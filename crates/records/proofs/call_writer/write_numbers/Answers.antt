@@ -1,7 +1,6 @@
 -- `call::write_numbers` meets its contract. Assumes nothing.
 use mathlib.Core.Path.{◌≡◌, refl, sym, ap, ◌∙◌}
 use native.Mathlib.Omega.{arith}
-use borrow.Author.Rules.{rules}
 use lib.Seq.{length-take-le}
 use lib.ListN.{length, take}
 use Rattle.fields.specs.Bytes.{put_at}

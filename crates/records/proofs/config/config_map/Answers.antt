@@ -6,7 +6,7 @@ use Rattle.records.proofs.ConfigLaw.{fields_are}
 use Rattle.records.proofs.config.config_map.Goals as goal
 use Rattle.records.proofs.config.config_map.Goals.{Start}
 
-long : (c : Start) → length c.args.t1 ≡ 33
+long : (c : Start) → length c.args.v ≡ 33
 long c = search rules
 
 pub returns : goal.returns

@@ -2,7 +2,6 @@
 use mathlib.Core.Path.{◌≡◌, ap, ◌∙◌}
 use native.Mathlib.Omega.{arith}
 use lib.ListN.{length}
-use borrow.Author.Rules.{rules}
 use Rattle.laws.specs.Config.{default}
 use Rattle.records.proofs.ConfigLaw.{bits_long, counted, cut, unnamed, short, whole}
 use Rattle.records.proofs.config.read_config.Goals as goal

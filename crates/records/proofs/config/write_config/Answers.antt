@@ -2,7 +2,6 @@
 use mathlib.Core.Path.{◌≡◌, ap, ◌∙◌}
 use native.Mathlib.Omega.{arith}
 use lib.ListN.{length}
-use borrow.Author.Rules.{rules}
 use Rattle.records.specs.Config.{config_record}
 use Rattle.fields.proofs.WriteLaw.{refused, accepted}
 use Rattle.records.proofs.ConfigLaw.{bits_long, counted, map_is, record_is, record_long}
