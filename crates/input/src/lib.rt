@@ -2,7 +2,7 @@
 // tells a refusal.
 #![tactic(auto)]
 
-ghost use Rattle.std.specs.Prelude.{◌≡◌, ◌≤◌, ◌<◌, false, length, take, OnOk};
+ghost use Rattle.std.specs.Prelude.{◌≡◌, ◌≤◌, ◌<◌, false, length, take, IfSome, OnOk};
 ghost use Rattle.std.specs.Io.KnownBytes.{Appends, Consumes, IsAtEnd};
 ghost use Rattle.std.specs.Counts.{IsPrefixLen};
 ghost use Rattle.lines.specs.Line.{text};
@@ -45,6 +45,8 @@ pub fn read_from<R: Read>(reader: &mut R, buffer: &mut [u8]) -> Input
     ensures size { IsPrefixLen result.size buffer.new }
     ensures bytes { Consumes (R.remaining reader.old) (R.remaining reader.new) (take result.size buffer.new) }
     ensures end { result.failed ≡ false → result.size < length buffer.new → IsAtEnd (R.remaining reader.new) }
+    ensures front { result.failed ≡ false → IfSome (R.remaining reader.old)
+        (λ input. take result.size buffer.new ≡ take (length buffer.new) input) }
 {
     let mut size: usize = 0;
     while size < buffer.len() {
