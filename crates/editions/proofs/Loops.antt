@@ -1,17 +1,17 @@
 -- What holds in each turn of `turn` and of `copied`. Assumes nothing.
 use mathlib.Core.Path.{◌≡◌, refl, sym, ap, subst, ◌∙◌}
-use mathlib.Core.Bool.{Bool, true, false, cond, not, ◌||◌}
+use mathlib.Core.Bool.{Bool, true, false, not, ◌||◌}
 use mathlib.Core.List.{List, [], ◌∷◌, ◌++◌, append_assoc}
 use Prim.Native.Nat.{ℕ, zero, suc, ◌+◌, ◌-◌, ◌/◌, ◌%◌, ◌<◌, ◌≤◌}
 use native.Mathlib.Omega.{arith}
 use native.Mathlib.Numerals.{add-one}
 use borrow.Author.Tests.{eq-eqb, ne_eqb, le-ltb}
 use borrow.Rule.Slice.PartMut.{put_mid}
-use lib.Dec.{T, eqb, ltb, lit<}
+use lib.Dec.{T, eqb}
 use lib.ListN.{length, set, get_or, take, drop, replicate, length-append, length-drop, length-set, take-append-drop, drop_of_length-le}
 use lib.Seq.{take_at, drop_at, take-suc, take-suc-set, drop-cons, drop-drop, get_or-drop, length-take-le}
 use Rattle.fields.specs.Bytes.{number_at, bytes_of}
-use Rattle.fields.specs.Fields.{Field, stands, size_of, number_fields}
+use Rattle.fields.specs.Fields.{Field, size_of, number_fields}
 use Rattle.fields.proofs.FieldLaw.{rest_is, rest_back}
 use Rattle.records.specs.Call.{call_fields}
 use Rattle.records.proofs.CallLaw.{fields_are, fields_long}

@@ -1,15 +1,15 @@
 -- Each outcome of a reader by editions. Assumes nothing.
 use mathlib.Core.Path.{◌≡◌, refl, sym, ap, subst, ◌∙◌}
-use mathlib.Core.Bool.{Bool, true, false, cond, not, ◌&&◌}
-use mathlib.Core.List.{List, [], ◌∷◌, ◌++◌}
+use mathlib.Core.Bool.{Bool, true, false, cond, ◌&&◌}
+use mathlib.Core.List.{List, ◌++◌}
 use Prim.Native.Nat.{ℕ, ◌+◌, ◌-◌, ◌*◌, ◌/◌, ◌%◌, ◌<◌, ◌≤◌, ◌^◌}
 use native.Mathlib.Omega.{arith}
 use borrow.Author.Tests.{le-leb, lt-leb, eq-eqb, ne_eqb, eqb-true, eqb-false, ltb-true}
-use lib.Dec.{T, eqb, ltb}
+use lib.Dec.{T, eqb}
 use lib.ListN.{length, take, drop, get_or, length-append, length-drop}
 use lib.Seq.{drop-drop, drop_at, length-take-le}
-use Rattle.fields.specs.Bytes.{number_at, bytes_of, has_bytes}
-use Rattle.fields.specs.Fields.{Field, stands, bit, named, size_of, values_at}
+use Rattle.fields.specs.Bytes.{number_at, bytes_of}
+use Rattle.fields.specs.Fields.{stands, bit, named, size_of, values_at}
 use Rattle.fields.specs.Numbers.{floats_of}
 use Rattle.fields.proofs.NumberLaw.{bytes_long, number_back, drop_bytes}
 use Rattle.fields.proofs.FieldLaw.{rest_is}

@@ -1,6 +1,6 @@
 -- Document 02, K14: "a second edition of the call record has bit 22 standing with no field; in it altitude (bit 11), position z
 -- (bit 15) and velocity z (bit 18) have their sign bit flipped; a missing one still means a call value of +0". Definitions only.
-use Rattle.std.specs.Prelude.{Bool, cond, not, ◌&&◌, ◌||◌, List, [], ◌∷◌, ◌++◌, ℕ, suc, ◌+◌, ◌-◌, ◌/◌, ◌%◌, ◌^◌, eqb, length, drop, get_or}
+use Rattle.std.specs.Prelude.{Bool, cond, not, ◌&&◌, ◌||◌, List, [], ◌∷◌, ◌++◌, ℕ, suc, ◌+◌, ◌-◌, ◌/◌, ◌%◌, ◌^◌, eqb, drop, get_or}
 use Rattle.fields.specs.Bytes.{number_at, bytes_of, has_bytes}
 use Rattle.fields.specs.Fields.{stands, bit, size_of, values_at, body_of}
 use Rattle.fields.specs.Numbers.{floats_of}

@@ -1,5 +1,5 @@
 -- The text of calls, one call at a time. Assumes nothing.
-use mathlib.Core.Path.{◌≡◌, refl, sym, ap, ◌∙◌}
+use mathlib.Core.Path.{◌≡◌, refl}
 use mathlib.Core.Bool.{Bool, true, false, cond}
 use mathlib.Core.List.{List, [], ◌∷◌, ◌++◌, append-nil}
 use Prim.Native.Nat.{ℕ, zero, suc, ◌+◌, ◌-◌, ◌*◌, ◌<◌, ◌≤◌}
@@ -13,7 +13,7 @@ use Rattle.laws.specs.Config.{validate}
 use Rattle.laws.specs.declared.config.PlaneGuidanceConfig.{PlaneGuidanceConfig}
 use Rattle.laws.specs.declared.types.Setpoint.{Setpoint}
 use Rattle.laws.specs.declared.types.Setpoint.TheVariants as Set
-use Rattle.claims.specs.Calls.{Reply, answered, done, field, back, perform}
+use Rattle.claims.specs.Calls.{Reply, answered, done, field, back}
 use Rattle.guidance.specs.Plane.{fresh, created}
 use Rattle.guidance.specs.declared.plane.PlaneGuidance.{PlaneGuidance}
 use Rattle.guidance.specs.declared.plane.Created.{Created}
@@ -32,7 +32,7 @@ use Rattle.lines.specs.declared.Word.{Word}
 use Rattle.lines.specs.Line.{text}
 use Rattle.lines.proofs.TextLaw.{text_short}
 use Rattle.replay.specs.declared.turn.CallLine.{CallLine}
-use Rattle.replay.specs.Recording.{Calls, no_calls, on_read, read_calls, stops, recording}
+use Rattle.replay.specs.Recording.{read_calls, recording}
 use Rattle.replay.specs.Sizes.{text_room}
 use Rattle.replay.specs.Text.{
   refused_line,

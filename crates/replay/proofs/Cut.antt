@@ -1,27 +1,25 @@
 -- The text of a recording's first 352,394 bytes is the text of the whole recording. Assumes nothing.
 use mathlib.Core.Path.{◌≡◌, refl, sym, ap, ◌∙◌}
 use mathlib.Core.Bool.{Bool, true, false, cond}
-use mathlib.Core.List.{List, [], ◌∷◌, ◌++◌, append-nil}
+use mathlib.Core.List.{List, [], ◌++◌, append-nil}
 use Prim.Native.Nat.{ℕ, zero, suc, ◌+◌, ◌-◌, ◌*◌, ◌<◌, ◌≤◌}
 use native.Mathlib.Omega.{arith}
-use borrow.Author.Tests.{le-leb, lt-leb, leb-true, leb-false}
+use borrow.Author.Tests.{lt-leb, leb-true, leb-false}
 use lib.Dec.{leb}
 use lib.ListN.{length, drop, take}
 use lib.Seq.{take_all, take-take, length-take-le, take-append-le}
-use Rattle.laws.specs.declared.config.PlaneGuidanceConfig.{PlaneGuidanceConfig}
 use Rattle.fields.specs.Bytes.{number_at}
 use Rattle.fields.specs.Fields.{size_of}
 use Rattle.fields.proofs.Window.{drop_take}
 use Rattle.records.specs.Config.{config_fields, read_config}
 use Rattle.records.specs.Call.{call_fields, read_call}
-use Rattle.records.specs.declared.call.Call.{Call}
 use Rattle.records.specs.declared.call.ReadCall.{ReadCall}
 use Rattle.records.specs.declared.call.ReadCall.TheVariants as read
 use Rattle.records.specs.declared.config.ReadConfig.{ReadConfig}
 use Rattle.records.specs.declared.config.ReadConfig.TheVariants as config
 use Rattle.replay.specs.Sizes.{decisive}
-use Rattle.replay.specs.Recording.{Calls, no_calls, with_call, on_read, on_config, read_calls, recording, ends, stops, Recorded}
-use Rattle.replay.specs.Text.{recording_lines, lines_text, recording_text}
+use Rattle.replay.specs.Recording.{no_calls, with_call, on_read, on_config, read_calls, recording, ends}
+use Rattle.replay.specs.Text.{recording_text}
 use Rattle.replay.proofs.Window.{moved, call_at_lem, call_same, call_most, call_within, config_same, config_most, config_within}
 
 module _ (n : ℕ) (s : List ℕ) where

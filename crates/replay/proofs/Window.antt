@@ -1,8 +1,8 @@
 -- A record is read from its own bytes, wherever it stands and whatever follows it. Assumes nothing.
-use mathlib.Core.Path.{◌≡◌, refl, sym, ap, ◌∙◌}
+use mathlib.Core.Path.{◌≡◌, refl, sym}
 use mathlib.Core.Bool.{Bool, true, false, cond, not}
-use mathlib.Core.List.{List, [], ◌∷◌, ◌++◌}
-use Prim.Native.Nat.{ℕ, zero, suc, ◌+◌, ◌*◌, ◌/◌, ◌%◌, ◌≤◌}
+use mathlib.Core.List.{List}
+use Prim.Native.Nat.{ℕ, ◌+◌, ◌/◌, ◌≤◌}
 use native.Mathlib.Omega.{arith}
 use native.Mathlib.Nat.{zero-add}
 use borrow.Author.Tests.{leb-true}
@@ -11,7 +11,7 @@ use lib.ListN.{length, drop, take, get_or}
 use lib.Seq.{drop-drop}
 use Rattle.laws.specs.declared.config.PlaneGuidanceConfig.{PlaneGuidanceConfig}
 use Rattle.fields.specs.Bytes.{number_at, has_bytes}
-use Rattle.fields.specs.Fields.{ones, named, size_of, values_at}
+use Rattle.fields.specs.Fields.{named, size_of, values_at}
 use Rattle.fields.proofs.Window.{same_map, same_room, same_values, room_at}
 use Rattle.fields.specs.Numbers.{floats_of}
 use Rattle.fields.proofs.FieldLaw.{ones_le}
@@ -22,7 +22,6 @@ use Rattle.records.proofs.ConfigLaw as config-law
 use Rattle.records.specs.declared.call.Call.{Call}
 use Rattle.records.specs.declared.call.ReadCall.{ReadCall}
 use Rattle.records.specs.declared.call.ReadCall.TheVariants.{Read, Refused}
-use Rattle.records.specs.declared.config.ReadConfig.{ReadConfig}
 use Rattle.records.specs.declared.config.ReadConfig.TheVariants as config
 
 -- ---- calls

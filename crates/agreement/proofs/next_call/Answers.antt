@@ -16,7 +16,7 @@ pub returns-in-Refused : goal.returns-in-Refused
 returns-in-Refused c =
     seek_bad c.loop-n.invariant _
     c.loop-n-test.true c.if-s-at.false
-    (sym c.before.before.before.read_call.ensures ∙ c.in-Refused.is)
+    (sym c.read_call-read.ensures ∙ c.in-Refused.is)
 
 pub overflow_add-n : goal.overflow_add-n
 overflow_add-n c = omega arith
@@ -26,7 +26,7 @@ returns-then-not-j c =
     seek_found c.loop-n.invariant _ _
     c.loop-n-test.true
     c.if-s-at.false
-    (sym c.before.before.before.before.before.before.before.before.read_call.ensures
+    (sym c.read_call-read.ensures
     ∙ c.in-Read.is) c.perform-done.result
     c.perform-done.ensures c.judge-j.result c.judge-j.ensures
     c.if-not-j.true
@@ -39,7 +39,7 @@ loop-n-preserved c =
     seek_turn c.loop-n.invariant _ _
     c.loop-n-test.true
     c.if-s-at.false
-    (sym c.before.before.before.before.before.before.before.before.read_call.ensures
+    (sym c.read_call-read.ensures
     ∙ c.in-Read.is) c.perform-done.result
     c.perform-done.ensures c.judge-j.result c.judge-j.ensures
     c.if-not-j.false

@@ -13,33 +13,33 @@ pub shape_of-s-in-Refused : goal.shape_of-s-in-Refused
 shape_of-s-in-Refused c =
     absurd (close_refuses c.loop-at.invariant _
     c.loop-at-test.true
-    (sym c.before.before.before.read_call.ensures ∙ c.in-Refused.is))
+    (sym c.read_call-read.ensures ∙ c.in-Refused.is))
 
 pub returns-in-Refused : goal.returns-in-Refused
 returns-in-Refused c =
     absurd (close_refuses c.loop-at.invariant _
     c.loop-at-test.true
-    (sym c.before.before.before.read_call.ensures ∙ c.in-Refused.is))
+    (sym c.read_call-read.ensures ∙ c.in-Refused.is))
 
 pub keep-to-requires : goal.keep-to-requires
 keep-to-requires c =
     close_asks c.loop-at.invariant _ _
     c.loop-at-test.true
-    (sym c.before.before.before.before.before.before.before.read_call.ensures
+    (sym c.read_call-read.ensures
     ∙ c.in-Read.is)
 
 pub loop-at-smaller : goal.loop-at-smaller
 loop-at-smaller c =
     close_less c.loop-at.invariant _ _
     c.loop-at-test.true
-    (sym c.before.before.before.before.before.before.before.before.before.before.read_call.ensures
+    (sym c.read_call-read.ensures
     ∙ c.in-Read.is)
 
 pub loop-at-preserved : goal.loop-at-preserved
 loop-at-preserved c =
     close_turn c.loop-at.invariant _ _
     c.loop-at-test.true
-    (sym c.before.before.before.before.before.before.before.before.before.before.read_call.ensures
+    (sym c.read_call-read.ensures
     ∙ c.in-Read.is)
     c.perform-done.result
     c.perform-done.ensures c.judge-j.result

@@ -2,7 +2,6 @@ use mathlib.Core.Path.{sym, ap, ◌∙◌}
 use Rattle.editions.specs.declared.Edition.{Edition}
 use Rattle.editions.specs.Edition.{read_as}
 use Rattle.editions.proofs.Writing.{refusal_is, places_are}
-use borrow.Author.Rules.{rules}
 use Rattle.editions.proofs.convert.Goals as goal
 
 pub returns-in-Refused : goal.returns-in-Refused

@@ -1,7 +1,6 @@
 use mathlib.Core.Path.{refl}
-use Prim.Native.Nat.{◌-◌}
 use native.Mathlib.Omega.{arith}
-use Rattle.editions.proofs.Loops.{Copying, copy_starts, copy_turn, copy_done}
+use Rattle.editions.proofs.Loops.{copy_starts, copy_turn, copy_done}
 use Rattle.editions.proofs.copied.Goals as goal
 
 pub loop-i-init : goal.loop-i-init

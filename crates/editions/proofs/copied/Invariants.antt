@@ -1,7 +1,5 @@
-use mathlib.Core.Path.{refl}
 use Prim.Native.Nat.{◌-◌}
-use native.Mathlib.Omega.{arith}
-use Rattle.editions.proofs.Loops.{Copying, copy_starts, copy_turn, copy_done}
+use Rattle.editions.proofs.Loops.{Copying}
 use Rattle.editions.proofs.copied.Given as goal
 
 abbrev pub invariant-loop-i : goal.invariant-loop-i

@@ -1,10 +1,8 @@
 use mathlib.Core.Path.{refl, sym, ap, ◌∙◌}
 use native.Mathlib.Omega.{arith}
-use borrow.Author.Tests.{not-true, not-false}
 use Rattle.editions.specs.declared.Edition.{Edition}
 use Rattle.editions.specs.Edition.{read_as}
 use Rattle.editions.proofs.Reading.{cut, incomplete, already, first_is, second_map}
-use borrow.Author.Rules.{rules}
 use Rattle.editions.proofs.read_as.Goals as goal
 
 pub returns-then-s-at : goal.returns-then-s-at
@@ -28,7 +26,7 @@ returns-then-mark-eq0 c =
     c.read_call.ensures
     ∙ first_is _ _ (omega (arith, c.if-s-at-lt4.false, c.if-s-at.false)) _ c.read_number-map.ensures.0 _ _ refl refl _
     (c.if-mark-wanted.false ∙ c.mark_of-wanted.ensures.0) c.if-mark-eq0.true
-    (sym c.is_complete.ensures ∙ not-false _ c.if-not-is_complete.false)
+    (sym c.is_complete.ensures ∙ c.if-not-is_complete.false)
 
 pub read_second-requires : goal.read_second-requires
 read_second-requires c =
@@ -36,7 +34,7 @@ read_second-requires c =
       omega (arith, c.if-s-at-lt4.false, c.if-s-at.false),
       (second_map a.s.now a.at (omega (arith, c.if-s-at-lt4.false, c.if-s-at.false)) _ c.read_number-map.ensures.0 _ _
           refl refl a.edition (c.if-mark-wanted.false ∙ c.mark_of-wanted.ensures.0) c.if-mark-eq0.false).0,
-      sym c.is_complete.ensures ∙ not-false _ c.if-not-is_complete.false,
+      sym c.is_complete.ensures ∙ c.if-not-is_complete.false,
     )
 
 pub returns : goal.returns

@@ -1,7 +1,6 @@
 -- `turn` meets its contract: the fields before bit i are turned. Assumes nothing.
-use Prim.Native.Nat.{◌-◌}
 use native.Mathlib.Omega.{arith}
-use Rattle.editions.proofs.Loops.{Turning, turn_starts, turn_room, turn_turn, turn_skips, turn_done}
+use Rattle.editions.proofs.Loops.{turn_starts, turn_room, turn_turn, turn_skips, turn_done}
 use Rattle.editions.proofs.turn.Goals as goal
 
 pub loop-i-init : goal.loop-i-init

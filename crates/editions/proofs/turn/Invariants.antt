@@ -1,7 +1,6 @@
 -- `turn` meets its contract: the fields before bit i are turned. Assumes nothing.
 use Prim.Native.Nat.{◌-◌}
-use native.Mathlib.Omega.{arith}
-use Rattle.editions.proofs.Loops.{Turning, turn_starts, turn_room, turn_turn, turn_skips, turn_done}
+use Rattle.editions.proofs.Loops.{Turning}
 use Rattle.editions.proofs.turn.Given as goal
 
 abbrev pub invariant-loop-i : goal.invariant-loop-i

@@ -1,6 +1,5 @@
 use mathlib.Core.Path.{sym, ◌∙◌}
 use Rattle.editions.proofs.Loops.{down_room, field_turned, field_kept}
-use borrow.Author.Rules.{rules}
 use Rattle.editions.proofs.turn_field.Goals as goal
 
 pub turn_number-requires : goal.turn_number-requires

@@ -1,5 +1,4 @@
 use mathlib.Core.Path.{◌∙◌}
-use borrow.Author.Rules.{rules}
 use Rattle.editions.proofs.turn_number.Goals as goal
 
 pub returns : goal.returns

@@ -1,6 +1,5 @@
 use native.Mathlib.Omega.{arith}
 use Rattle.editions.proofs.Writing.{record_turned}
-use borrow.Author.Rules.{rules}
 use Rattle.editions.proofs.turn_record.Goals as goal
 
 pub turn-requires : goal.turn-requires

@@ -1,5 +1,4 @@
 use Rattle.editions.specs.Edition.{record_as}
-use borrow.Author.Rules.{rules}
 use Rattle.editions.proofs.write_as.Goals as goal
 
 pub returns-in-First : goal.returns-in-First

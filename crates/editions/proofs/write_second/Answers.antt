@@ -1,7 +1,6 @@
 use mathlib.Core.Path.{sym, ◌∙◌}
 use native.Mathlib.Omega.{arith}
 use Rattle.editions.proofs.Writing.{kept, place_in, part_room, turned_in}
-use borrow.Author.Rules.{rules}
 use Rattle.editions.proofs.write_second.Goals as goal
 
 pub slice_bounds-turn_record-count : goal.slice_bounds-turn_record-count

@@ -1,9 +1,7 @@
 use native.Mathlib.Omega.{arith}
-use borrow.Author.Rules.{rules}
 use mathlib.Core.Path.{sym, ◌∙◌}
-use Prim.Native.Nat.{◌-◌}
 use Rattle.replay.proofs.PrintLaw.{printed_all}
-use Rattle.replay.proofs.CallsLaw.{Calling, call_starts, call_over, call_turn, left_bad, left_nine, stop_asks, stop_ends, turn_asks}
+use Rattle.replay.proofs.CallsLaw.{call_starts, call_over, call_turn, left_bad, left_nine, stop_asks, stop_ends, turn_asks}
 use Rattle.replay.proofs.calls.Goals as goal
 
 pub loop-n-init : goal.loop-n-init
@@ -21,7 +19,7 @@ print-requires c =
     (left_bad c.loop-n.invariant _
     c.loop-n-test.true
     c.if-s-at.false
-    (sym c.before.before.before.before.before.read_call.ensures ∙ c.in-Refused.is))
+    (sym c.read_call-read.ensures ∙ c.in-Refused.is))
 
 pub shape_of-out-in-Refused : goal.shape_of-out-in-Refused
 shape_of-out-in-Refused c =
@@ -30,7 +28,7 @@ shape_of-out-in-Refused c =
     (left_bad c.loop-n.invariant _
     c.loop-n-test.true
     c.if-s-at.false
-    (sym c.before.before.before.before.before.before.before.before.read_call.ensures
+    (sym c.read_call-read.ensures
     ∙ c.in-Refused.is)) _ _ c.print.ensures).long
 
 pub returns-in-Refused : goal.returns-in-Refused
@@ -40,7 +38,7 @@ returns-in-Refused c =
     (left_bad c.loop-n.invariant _
     c.loop-n-test.true
     c.if-s-at.false
-    (sym c.before.before.before.before.before.before.before.before.read_call.ensures
+    (sym c.read_call-read.ensures
     ∙ c.in-Refused.is)) _ _ c.print.ensures)
 
 pub print-to-requires : goal.print-to-requires
@@ -48,7 +46,7 @@ print-to-requires c =
     turn_asks c.loop-n.invariant
     c.loop-n-test.true
     c.if-s-at.false _ _
-    (sym c.before.before.before.before.before.before.before.read_call.ensures
+    (sym c.read_call-read.ensures
     ∙ c.in-Read.is) _ c.call_line-p.ensures
 
 pub overflow_add-n : goal.overflow_add-n
@@ -62,7 +60,7 @@ loop-n-preserved c =
     call_turn c.loop-n.invariant
     c.loop-n-test.true
     c.if-s-at.false _ _
-    (sym c.before.before.before.before.before.before.before.before.before.before.read_call.ensures
+    (sym c.read_call-read.ensures
     ∙ c.in-Read.is) _
     c.call_line-p.ensures _ _ c.print-to.ensures
 

@@ -1,9 +1,5 @@
-use native.Mathlib.Omega.{arith}
-use borrow.Author.Rules.{rules}
-use mathlib.Core.Path.{sym, ◌∙◌}
 use Prim.Native.Nat.{◌-◌}
-use Rattle.replay.proofs.PrintLaw.{printed_all}
-use Rattle.replay.proofs.CallsLaw.{Calling, call_starts, call_over, call_turn, left_bad, left_nine, stop_asks, stop_ends, turn_asks}
+use Rattle.replay.proofs.CallsLaw.{Calling}
 use Rattle.replay.proofs.calls.Given as goal
 
 abbrev pub invariant-loop-n : goal.invariant-loop-n

@@ -1,7 +1,6 @@
 use mathlib.Core.Path.{sym, ◌∙◌}
 use Rattle.replay.proofs.PrintLaw.{alone_asks, alone_prints, same_asks}
 use Rattle.replay.proofs.CallsLaw.{stopped_count, refused_count, config_bad, config_refused, config_made}
-use borrow.Author.Rules.{rules}
 use Rattle.replay.proofs.pass.Goals as goal
 
 pub print-requires : goal.print-requires

@@ -5,8 +5,7 @@ use lib.ListN.{length}
 use Rattle.lines.specs.Line.{text}
 use Rattle.lines.proofs.TextLaw.{text_short}
 use Rattle.replay.specs.Code.Pass.{Prints}
-use Rattle.replay.proofs.PrintLaw.{print_room, print_writes, print_measures, print_long}
-use borrow.Author.Rules.{rules}
+use Rattle.replay.proofs.PrintLaw.{print_room, print_writes, print_measures}
 use Rattle.replay.proofs.print.Goals as goal
 use Rattle.replay.proofs.print.Goals.{After-slice_known-then-write-1}
 

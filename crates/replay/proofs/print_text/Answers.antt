@@ -2,7 +2,6 @@ use mathlib.Core.Path.{◌∙◌}
 use native.Mathlib.Nat.{zero-add}
 use native.Mathlib.Omega.{arith}
 use Rattle.replay.proofs.CallsLaw.{text_fits}
-use borrow.Author.Rules.{rules}
 use Rattle.replay.proofs.print_text.Goals as goal
 
 pub pass-requires : goal.pass-requires

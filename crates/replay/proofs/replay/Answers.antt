@@ -4,7 +4,6 @@ use native.Mathlib.Nat.{zero-add}
 use lib.ListN.{length}
 use Rattle.replay.proofs.PrintLaw.{not_asked, answer_text, answer_refused}
 use Rattle.replay.proofs.CallsLaw.{text_fits}
-use borrow.Author.Rules.{rules}
 use Rattle.replay.proofs.replay.Goals as goal
 
 pub pass-size-requires : goal.pass-size-requires

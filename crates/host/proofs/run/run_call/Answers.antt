@@ -6,7 +6,7 @@ use Rattle.host.proofs.run.run_call.Goals as goal
 
 pub returns-in-Refused : goal.returns-in-Refused
 unfolding run_call
-returns-in-Refused c = rw (c.bare.ensures, ← c.before.before.before.before.read_call.ensures, c.in-Refused.is)
+returns-in-Refused c = rw (c.bare.ensures, ← c.read_call-read.ensures, c.in-Refused.is)
 
 pub returns-in-Read : goal.returns-in-Read
 unfolding run_call performed
@@ -16,6 +16,6 @@ returns-in-Read c =
       c.of_reply.ensures,
       ap (λ (o : Outcome). o.reply) done,
       ap (λ (o : Outcome). o.next) done,
-      ← c.before.before.before.before.before.before.read_call.ensures,
+      ← c.read_call-read.ensures,
       c.in-Read.is,
     )

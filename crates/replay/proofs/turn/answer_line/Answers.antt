@@ -1,5 +1,4 @@
 use Rattle.replay.specs.Text.{answer_line}
-use borrow.Author.Rules.{rules}
 use Rattle.replay.proofs.turn.answer_line.Goals as goal
 
 pub returns-in-Refused : goal.returns-in-Refused

@@ -1,5 +1,4 @@
 use Rattle.replay.specs.Text.{prime_line}
-use borrow.Author.Rules.{rules}
 use Rattle.replay.proofs.turn.prime_line.Goals as goal
 
 pub returns : goal.returns

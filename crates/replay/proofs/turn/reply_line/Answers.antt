@@ -1,4 +1,3 @@
-use borrow.Author.Rules.{rules}
 use Rattle.replay.specs.Text.{reply_line}
 use Rattle.replay.proofs.turn.reply_line.Goals as goal
 

@@ -1,5 +1,4 @@
 use Rattle.replay.specs.Text.{setpoint_line}
-use borrow.Author.Rules.{rules}
 use Rattle.replay.proofs.turn.setpoint_line.Goals as goal
 
 pub returns-in-Plane : goal.returns-in-Plane

@@ -1,5 +1,4 @@
 use Rattle.replay.specs.Text.{stopped_line}
-use borrow.Author.Rules.{rules}
 use Rattle.replay.proofs.turn.stopped_line.Goals as goal
 
 pub returns : goal.returns
