@@ -5,7 +5,7 @@ use Rattle.std.specs.Io.KnownBytes.{Appends}
 use Rattle.std.proofs.KnownBytes.{Appends-nil}
 use Rattle.replay.specs.Recording.{recording}
 use Rattle.replay.specs.Sizes.{decisive}
-use Rattle.compaction.specs.Compaction.{compacted, bytes_after}
+use Rattle.compaction.specs.Compaction.{bytes_after}
 use Rattle.compaction.specs.declared.Compacted.{Compacted}
 use Rattle.compaction.specs.declared.Compacted.TheVariants as answer
 use Rattle.compaction.proofs.LawsProof.{within}
