@@ -2,7 +2,6 @@
 use Rattle.arithmetic.specs.Constants.{n0}
 use Rattle.laws.specs.declared.types.OptionF32.{OptionF32}
 use Rattle.laws.specs.declared.types.OptionF32.TheVariants.{None}
-use Rattle.laws.specs.declared.types.Vec3.{Vec3}
 use Rattle.laws.specs.declared.types.VehicleState.{VehicleState}
 use Rattle.laws.specs.declared.types.ControlInput.TheVariants as Input
 use Rattle.claims.specs.Calls.{Call, guide, prime, Reply, answered, done, Outcome}

@@ -1,8 +1,8 @@
 -- What is left after striking has nothing to strike. Assumes nothing.
 use mathlib.Core.Path.{◌≡◌, refl, sym, ap, ◌∙◌}
-use mathlib.Core.Bool.{Bool, true, false, cond, not, ◌&&◌, ◌||◌}
+use mathlib.Core.Bool.{Bool, true, false, cond, ◌&&◌, ◌||◌}
 use mathlib.Core.List.{List, [], ◌∷◌}
-use Prim.Native.Nat.{ℕ, suc, ◌≤◌}
+use Prim.Native.Nat.{ℕ, suc}
 use native.Mathlib.Omega.{arith}
 use lib.ListN.{length}
 use lib.Ieee.{Float}
@@ -15,27 +15,7 @@ use Rattle.guidance.specs.Plane.{fresh, vertical_law}
 use Rattle.guidance.specs.declared.plane.PlaneGuidance.{PlaneGuidance}
 use Rattle.guidance.specs.declared.plane.VerticalLaw.{VerticalLaw}
 use Rattle.guidance.specs.declared.plane.VerticalLaw.TheVariants.{Energy, Hold, Fallback}
-use Rattle.claims.specs.Calls.{
-  Call,
-  guide,
-  prime,
-  set_config,
-  take_back,
-  Reply,
-  perform,
-  refused,
-  replies,
-  refusals,
-  law_is,
-  is_hold,
-  is_fallback,
-  holds,
-  fell_back,
-  struck,
-  strikes,
-  unmarked,
-  marks,
-}
+use Rattle.claims.specs.Calls.{Call, guide, prime, set_config, take_back, Reply, perform, refused, replies, refusals, law_is, is_hold, is_fallback, fell_back, struck, strikes, unmarked, marks}
 use Rattle.claims.proofs.Demand3.{demand3}
 
 -- no mark at all

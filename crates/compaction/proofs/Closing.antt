@@ -5,20 +5,19 @@ use mathlib.Core.Bool.{Bool, true, false, cond}
 use mathlib.Core.List.{List, [], ◌∷◌, ◌++◌, append_assoc, append-nil}
 use Prim.Native.Nat.{ℕ, zero, suc, ◌+◌, ◌-◌, ◌<◌, ◌≤◌}
 use native.Mathlib.Omega.{arith}
-use lib.ListN.{length, take, drop, length-append, length-drop}
+use lib.ListN.{length, take, drop, length-drop}
 use lib.Seq.{drop-drop, length-take-le}
 use Rattle.guidance.specs.declared.plane.PlaneGuidance.{PlaneGuidance}
-use Rattle.claims.specs.Calls.{Call, Reply, Outcome, perform, refused, replies, refusals, struck, fell_back, strikes, unmarked, marks}
-use Rattle.fields.specs.Bytes.{number_at, put_at}
+use Rattle.claims.specs.Calls.{Outcome, perform, refused, replies, refusals, struck, fell_back, strikes, unmarked, marks}
+use Rattle.fields.specs.Bytes.{number_at}
 use Rattle.fields.specs.Fields.{size_of}
 use Rattle.records.specs.Call.{call_fields, read_call}
 use Rattle.records.specs.declared.call.Call.{Call as Read}
-use Rattle.records.specs.declared.call.ReadCall.{ReadCall}
 use Rattle.records.specs.declared.call.ReadCall.TheVariants as read
 use Rattle.calls.specs.Calls.{call_of, as_outcome}
 use Rattle.calls.specs.declared.Performed.{Performed}
 use Rattle.lines.proofs.PutLaw.{put_long}
-use Rattle.replay.specs.Recording.{Recorded, Calls, no_calls, with_call, Ending, ends, stops, read_calls, most_calls}
+use Rattle.replay.specs.Recording.{Recorded, no_calls, with_call, Ending, ends, stops, read_calls, most_calls}
 use Rattle.replay.proofs.Window.{moved, call_at_lem, call_within}
 use Rattle.compaction.specs.Compaction.{record_at, records_at, calls_of}
 use Rattle.compaction.specs.declared.Judged.{Judged}

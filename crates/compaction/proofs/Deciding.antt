@@ -1,31 +1,30 @@
 -- What the first pass decides, and what the second then leaves. Assumes nothing.
 use mathlib.Core.Path.{◌≡◌, refl, sym, ap, ◌∙◌}
-use mathlib.Core.Bool.{Bool, true, false, cond}
-use mathlib.Core.List.{List, [], ◌∷◌, ◌++◌}
-use Prim.Native.Nat.{ℕ, zero, suc, ◌+◌, ◌-◌, ◌<◌, ◌≤◌}
+use mathlib.Core.Bool.{Bool, true, false}
+use mathlib.Core.List.{List, ◌++◌}
+use Prim.Native.Nat.{ℕ, zero, suc, ◌+◌, ◌-◌, ◌≤◌}
 use native.Mathlib.Omega.{arith}
 use borrow.Author.Tests.{ne_eqb, eqb-true}
 use lib.Dec.{eqb}
-use lib.ListN.{length, take, drop, replicate}
+use lib.ListN.{length, take, replicate}
 use lib.Seq.{length-take-le}
 use Rattle.laws.specs.Config.{validate}
 use Rattle.laws.specs.declared.config.PlaneGuidanceConfig.{PlaneGuidanceConfig}
 use Rattle.guidance.specs.Plane.{fresh, created}
 use Rattle.guidance.specs.declared.plane.PlaneGuidance.{PlaneGuidance}
-use Rattle.claims.specs.Calls.{marks, unmarked}
 use Rattle.records.specs.Config.{read_config}
 use Rattle.records.specs.declared.config.ReadConfig.{ReadConfig}
 use Rattle.records.specs.declared.config.ReadConfig.TheVariants as config
-use Rattle.replay.specs.Recording.{Calls, Ending, ends, stops, Recording, bad_config, recorded, on_config, read_calls, most_calls, recording}
+use Rattle.replay.specs.Recording.{Ending, ends, stops, read_calls, most_calls, recording}
 use Rattle.replay.proofs.Window.{config_within}
-use Rattle.compaction.specs.Compaction.{config_at, records_at, calls_of, remaining, short, padded, compacted, bytes_after, compacted_calls, bytes_of_calls}
+use Rattle.compaction.specs.Compaction.{remaining, short, padded, compacted, bytes_after}
 use Rattle.compaction.specs.declared.Compacted.{Compacted}
 use Rattle.compaction.specs.declared.Compacted.TheVariants as answer
 use Rattle.compaction.specs.declared.Decided.{Decided}
 use Rattle.compaction.specs.declared.Decided.TheVariants as ruling
-use Rattle.compaction.specs.Code.Steps.{end_number, scanned, decided_calls, decided_new, decided_config, decided, Closed}
-use Rattle.compaction.proofs.Short.{Whole, whole}
-use Rattle.compaction.proofs.LawsProof.{config_front, config_long}
+use Rattle.compaction.specs.Code.Steps.{scanned, decided_calls, decided_new, decided_config, decided, Closed}
+use Rattle.compaction.proofs.Short.{whole}
+use Rattle.compaction.proofs.LawsProof.{config_front}
 
 -- a recording that is read to its end
 pub record Opening (s : List ℕ) (g : PlaneGuidance) (next : ℕ) : Type 0 where

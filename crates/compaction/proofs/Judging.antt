@@ -1,7 +1,6 @@
 -- A call is struck by its answer as by its own numbers. Assumes nothing.
-use mathlib.Core.Path.{◌≡◌, refl, sym, ap, ◌∙◌}
-use mathlib.Core.Bool.{Bool, true, false, cond, not, ◌&&◌, ◌||◌}
-use mathlib.Core.List.{List, [], ◌∷◌}
+use mathlib.Core.Path.{◌≡◌, refl}
+use mathlib.Core.Bool.{Bool, true, false, cond, not}
 use Prim.Native.Nat.{ℕ}
 use lib.Dec.{eqb}
 use lib.Ieee.{Float}
@@ -11,15 +10,14 @@ use Rattle.laws.specs.declared.types.ControlInput.{ControlInput}
 use Rattle.laws.specs.declared.types.ControlInput.TheVariants as Input
 use Rattle.laws.specs.declared.types.FlightRegime.{FlightRegime}
 use Rattle.laws.specs.declared.types.VehicleState.{VehicleState}
-use Rattle.guidance.specs.Plane.{bad_time_step, bad_cap, all_finite, vertical, vertical_law, commanded, waypoint, obeyed, guided, primed}
+use Rattle.guidance.specs.Plane.{bad_time_step, bad_cap, all_finite, vertical, vertical_law, commanded, waypoint, obeyed, guided}
 use Rattle.guidance.specs.declared.plane.PlaneGuidance.{PlaneGuidance}
 use Rattle.guidance.specs.declared.plane.VerticalLaw.{VerticalLaw}
 use Rattle.guidance.specs.declared.plane.VerticalLaw.TheVariants.{Energy, Hold, Fallback}
 use Rattle.guidance.specs.declared.plane.WaypointAnswer.{WaypointAnswer}
-use Rattle.guidance.specs.declared.plane.Answer.{Answer}
 use Rattle.guidance.specs.declared.plane.Answer.TheVariants as Answered
 use Rattle.guidance.specs.declared.plane.Guided.{Guided}
-use Rattle.claims.specs.Calls.{Call, guide, prime, set_config, Reply, answered, perform, refused, law_is, is_hold, is_fallback, holds, fell_back, struck}
+use Rattle.claims.specs.Calls.{Call, guide, answered, perform, refused, fell_back, struck}
 use Rattle.records.specs.declared.call.Call.{Call as Read}
 use Rattle.records.specs.declared.call.Call.TheVariants as read
 use Rattle.calls.specs.Calls.{call_of, unsensed, no_cap}

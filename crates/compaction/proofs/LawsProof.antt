@@ -2,7 +2,7 @@
 use mathlib.Core.Path.{◌≡◌, refl, sym, ap, ◌∙◌}
 use mathlib.Core.Bool.{Bool, true, false, cond}
 use mathlib.Core.List.{List, [], ◌∷◌, ◌++◌, append-nil}
-use Prim.Native.Nat.{ℕ, zero, suc, ◌+◌, ◌-◌, ◌<◌, ◌≤◌}
+use Prim.Native.Nat.{ℕ, ◌+◌, ◌-◌, ◌≤◌}
 use native.Mathlib.Omega.{arith}
 use lib.Dec.{eqb}
 use lib.ListN.{length, take, drop, replicate, length-append, length-drop, take-append-drop}
@@ -10,11 +10,9 @@ use lib.Seq.{length-take-le, take_at, drop_at}
 use Rattle.laws.specs.Config.{validate}
 use Rattle.laws.specs.declared.config.PlaneGuidanceConfig.{PlaneGuidanceConfig}
 use Rattle.guidance.specs.Plane.{fresh}
-use Rattle.claims.specs.Calls.{Call, replies, marks, unmarked}
+use Rattle.claims.specs.Calls.{replies, marks, unmarked}
 use Rattle.claims.proofs.Demand3.{demand3}
-use Rattle.fields.specs.Bytes.{number_at}
-use Rattle.fields.specs.Fields.{size_of}
-use Rattle.records.specs.Config.{config_fields, read_config}
+use Rattle.records.specs.Config.{read_config}
 use Rattle.records.specs.declared.config.ReadConfig.{ReadConfig}
 use Rattle.records.specs.declared.config.ReadConfig.TheVariants as config
 use Rattle.replay.specs.Recording.{Recorded, Calls, Ending, ends, stops, Recording, bad_config, recorded, on_config, read_calls, most_calls, recording}
@@ -22,9 +20,8 @@ use Rattle.replay.specs.Text.{call_lines, run_lines, recording_lines, refused_li
 use Rattle.replay.proofs.Window.{config_same, config_within}
 use Rattle.compaction.specs.Compaction.{config_at, record_at, records_at, calls_of, remaining, short, padded, compacted, bytes_after, compacted_calls, bytes_of_calls, refusal_lines}
 use Rattle.compaction.specs.Laws.{Shortened, answer_lines, Laws}
-use Rattle.compaction.specs.declared.Compacted.{Compacted}
 use Rattle.compaction.specs.declared.Compacted.TheVariants as answer
-use Rattle.compaction.proofs.Again.{no_marks, unmarked_none, marks_again}
+use Rattle.compaction.proofs.Again.{unmarked_none, marks_again}
 use Rattle.compaction.proofs.Short.{AllRead, all_unmarked, fewer, calls_unmarked, calls_long, Whole, whole, placed, calls_placed, read_placed}
 
 -- ---- a recording that is read, opened

@@ -1,12 +1,11 @@
 -- The calls of a recording, read one after another. Assumes nothing.
 use mathlib.Core.Path.{◌≡◌, refl, sym, ap, ◌∙◌}
-use mathlib.Core.Bool.{Bool, true, false, cond, true≢false, false≢true}
-use mathlib.Core.List.{List, [], ◌∷◌, ◌++◌}
+use mathlib.Core.Bool.{Bool, true, false, true≢false, false≢true}
+use mathlib.Core.List.{List}
 use Prim.Native.Nat.{ℕ, zero, suc, ◌+◌, ◌-◌, ◌<◌, ◌≤◌}
 use native.Mathlib.Omega.{arith}
 use native.Mathlib.Nat.{add-zero}
-use lib.Dec.{eqb, leb}
-use borrow.Author.Tests.{le-leb, lt-leb, leb-true, leb-false}
+use borrow.Author.Tests.{le-leb, lt-leb}
 use lib.ListN.{length}
 use Rattle.records.specs.Call.{read_call, skipped}
 use Rattle.records.specs.declared.call.Call.{Call}
@@ -14,8 +13,7 @@ use Rattle.records.specs.declared.call.ReadCall.{ReadCall}
 use Rattle.records.specs.declared.call.ReadCall.TheVariants.{Read, Refused}
 use Rattle.records.specs.declared.call.Skipped.{Skipped}
 use Rattle.records.specs.declared.call.Skipped.TheVariants as skip
-use Rattle.replay.specs.Recording.{Recorded, Calls, no_calls, with_call, Ending, ends, stops, read_calls, most_calls}
-use Rattle.compaction.specs.declared.Scanned.{Scanned}
+use Rattle.replay.specs.Recording.{Recorded, Calls, no_calls, with_call, ends, stops, read_calls, most_calls}
 use Rattle.compaction.specs.Code.Steps.{scanned}
 
 module _ (s : List ℕ) (at : ℕ) where

@@ -1,13 +1,13 @@
 -- Reading the short recording. Assumes nothing.
 use mathlib.Core.Path.{◌≡◌, refl, sym, ap, ◌∙◌}
 use mathlib.Core.Bool.{Bool, true, false, cond, not}
-use mathlib.Core.List.{List, [], ◌∷◌, ◌++◌, append_assoc, append-nil}
-use Prim.Native.Nat.{ℕ, zero, suc, ◌+◌, ◌-◌, ◌<◌, ◌≤◌}
+use mathlib.Core.List.{List, [], ◌∷◌, ◌++◌}
+use Prim.Native.Nat.{ℕ, zero, suc, ◌+◌, ◌<◌, ◌≤◌}
 use native.Mathlib.Omega.{arith}
 use borrow.Author.Tests.{leb-true, leb-false}
 use lib.Dec.{leb}
 use lib.ListN.{length, take, drop, get_or, length-append, length-drop, take-append-drop, drop_of_length-le}
-use lib.Seq.{drop-drop, length-take-le, take_at, drop_at, take_all}
+use lib.Seq.{drop-drop, length-take-le, take_at, drop_at}
 use Rattle.claims.specs.Calls.{Call, unmarked}
 use Rattle.fields.specs.Bytes.{number_at, has_bytes}
 use Rattle.fields.specs.Fields.{size_of, values_at}
@@ -18,7 +18,7 @@ use Rattle.records.specs.declared.call.Call.{Call as Read}
 use Rattle.records.specs.declared.call.ReadCall.{ReadCall}
 use Rattle.records.specs.declared.call.ReadCall.TheVariants as read
 use Rattle.calls.specs.Calls.{call_of}
-use Rattle.replay.specs.Recording.{Recorded, Calls, no_calls, with_call, Ending, ends, stops, read_calls, most_calls}
+use Rattle.replay.specs.Recording.{Recorded, Calls, no_calls, with_call, ends, stops, read_calls}
 use Rattle.replay.proofs.Window.{moved, call_at_lem, call_same, call_within}
 use Rattle.compaction.specs.Compaction.{record_at, records_at, calls_of}
 use Rattle.compaction.proofs.Reading.{calls_over, calls_nine, calls_bad, calls_more}

@@ -1,13 +1,13 @@
 -- A guide or prime call keeps the configuration in force and the kept one, whoever sends it, so that they need not be put back. And
 -- the code's branch for changes is the definition.
 -- Assumes nothing.
-use mathlib.Core.Path.{◌≡◌, refl, ap}
-use mathlib.Core.Bool.{Bool, true, false, not, cond}
-use lib.Dec.{T, eqb}
+use mathlib.Core.Path.{◌≡◌, refl, ap, sym, ◌∙◌}
+use mathlib.Core.Bool.{Bool, true, false, cond}
+use lib.Dec.{eqb}
 use mathlib.Core.List.{List}
 use Prim.Native.Nat.{ℕ}
 use Rattle.guidance.specs.Plane.{cleared, primed}
-use Rattle.claims.specs.Calls.{perform, settings_of}
+use Rattle.claims.specs.Calls.{Settings, perform, settings_of}
 use Rattle.guidance.specs.declared.plane.PlaneGuidance.{PlaneGuidance}
 use Rattle.records.specs.Call.{read_call}
 use Rattle.records.specs.declared.call.Call.{Call}
@@ -17,7 +17,7 @@ use Rattle.records.specs.declared.call.ReadCall.TheVariants as read
 use Rattle.calls.specs.Calls.{call_of}
 use Rattle.host_answers.proofs.Kept.{guided_keeps}
 use Rattle.rights.specs.Rights.{may}
-use Rattle.host.specs.Run.{of_call, unchanged, performed, run_call, run, deed_of, may_run, run_by}
+use Rattle.host.specs.Run.{of_call, unchanged, performed, run_call, run, deed_of, run_by}
 use Rattle.host.specs.Code.Dispatch.{change, change_by}
 use Rattle.host.specs.declared.run.Ran.{Ran}
 
@@ -48,11 +48,17 @@ run_by_keeps g caller bytes = go (may caller (deed_of 0)) _
     go true n = run_keeps g bytes
     go false n = refl
 
--- where the number is not 0
-left : {A : Type 0} (x y : A) (b : Bool) → T (not b) → y ≡ cond b x y
-left x y false z = refl
-left x y true z = absurd z
+-- a guidance with other settings
+abbrev put : PlaneGuidance → Settings → PlaneGuidance
+put g t = record { config = t.config; requested = g.requested; altitude = g.altitude; tecs = g.tecs; former = t.former }
 
-pub change_is_run : (g : PlaneGuidance) (caller what : ℕ) (bytes : List ℕ) → T (not (eqb what 0)) → change_by g caller what bytes ≡ run_by g caller what bytes
+-- what `nuthkolla_run` leaves where it puts three fields back
+pub put_back : (g : PlaneGuidance) (caller : ℕ) (bytes : List ℕ) (r : Ran) → r ≡ run_by g caller 0 bytes
+    → put r.guidance (settings_of g) ≡ (run_by g caller 0 bytes).guidance
+put_back g caller bytes r e =
+    ap (λ (y : Ran). put y.guidance (settings_of g)) e ∙ sym (ap (put (run_by g caller 0 bytes).guidance) (run_by_keeps g caller bytes))
+
+-- where the number is not 0
+pub change_is_run : (g : PlaneGuidance) (caller what : ℕ) (bytes : List ℕ) → eqb what 0 ≡ false → change_by g caller what bytes ≡ run_by g caller what bytes
 unfolding change_by change run_by run
-change_is_run g caller what bytes z = ap (λ (r : Ran). cond (may_run caller what) r (unchanged g 13 0 0)) (left (run_call g bytes) (change g what bytes) (eqb what 0) z)
+change_is_run g caller what bytes z = rw z

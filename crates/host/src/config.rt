@@ -4,16 +4,14 @@ ghost use Rattle.laws.specs.Config as settings;
 
 use laws::config::{PlaneGuidanceConfig, default, validate};
 
-#[unsafe(no_mangle)]
-pub extern "C" fn nuthkolla_default_config() -> PlaneGuidanceConfig
+pub fn nuthkolla_default_config() -> PlaneGuidanceConfig
     ensures { result ≡ settings.default }
 {
     default()
 }
 
 // 0, or the number of the first failing field.
-#[unsafe(no_mangle)]
-pub extern "C" fn nuthkolla_validate(config: PlaneGuidanceConfig) -> u32
+pub fn nuthkolla_validate(config: PlaneGuidanceConfig) -> u32
     ensures { result ≡ settings.validate config }
 {
     validate(config)

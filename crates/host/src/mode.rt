@@ -65,8 +65,7 @@ fn reported(g: PlaneGuidance, what: u32) -> Report
 }
 
 // what: 0 the mode, 1 the stall guard. Number 13 comes first; 255 for any other number.
-#[unsafe(no_mangle)]
-pub extern "C" fn nuthkolla_report(guidance: PlaneGuidance, caller: u32, what: u32) -> Report
+pub fn nuthkolla_report(guidance: PlaneGuidance, caller: u32, what: u32) -> Report
     ensures { result ≡ spec.report_by guidance caller what }
 {
     if may(caller, deed_of(what)) {

@@ -15,8 +15,7 @@ pub struct ConfigRead {
 }
 
 // Reads a configuration's record at a place, without judging its numbers.
-#[unsafe(no_mangle)]
-pub extern "C" fn nuthkolla_read_config(bytes: &[u8], at: usize) -> ConfigRead
+pub fn nuthkolla_read_config(bytes: &[u8], at: usize) -> ConfigRead
     ensures { result ≡ spec.config_read bytes.now at }
 {
     let read = read_config(bytes, at);

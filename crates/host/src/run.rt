@@ -165,8 +165,7 @@ pub fn change_by(g: PlaneGuidance, caller: u32, what: u32, bytes: &[u8]) -> Ran
 
 // A call changes no configuration, neither the one in force nor the kept one, so they are not put back; and since calls have a branch
 // of their own, the kept one is not even read.
-#[unsafe(no_mangle)]
-pub extern "C" fn nuthkolla_run(
+pub fn nuthkolla_run(
     guidance: &mut PlaneGuidance,
     caller: u32,
     what: u32,

@@ -9,8 +9,7 @@ use records::call_writer::write_call;
 use records::config::write_config;
 
 // Writes a call's record at a place; number 7 for a kind above 6 or a regime above 1, number 8 for too little room.
-#[unsafe(no_mangle)]
-pub extern "C" fn nuthkolla_write_call(out: &mut [u8], at: usize, call: CallNumbers) -> Place
+pub fn nuthkolla_write_call(out: &mut [u8], at: usize, call: CallNumbers) -> Place
     ensures { (result ≡ spec.call_place call out.old at) × (out.new ≡ spec.call_buffer call out.old at) }
 {
     let kind = call.kind;
@@ -33,12 +32,7 @@ pub extern "C" fn nuthkolla_write_call(out: &mut [u8], at: usize, call: CallNumb
 }
 
 // Writes a configuration's record at a place; number 8 for too little room.
-#[unsafe(no_mangle)]
-pub extern "C" fn nuthkolla_write_config(
-    out: &mut [u8],
-    at: usize,
-    config: PlaneGuidanceConfig,
-) -> Place
+pub fn nuthkolla_write_config(out: &mut [u8], at: usize, config: PlaneGuidanceConfig) -> Place
     ensures { (result ≡ spec.config_place config out.old at) × (out.new ≡ spec.config_buffer config out.old at) }
 {
     let written = write_config(out, at, config);

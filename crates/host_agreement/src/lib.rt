@@ -73,8 +73,7 @@ fn agreed_of(answer: Agreement) -> Agreed
     }
 }
 
-#[unsafe(no_mangle)]
-pub extern "C" fn nuthkolla_agree(s: &[u8], t: &[u8]) -> Agreed
+pub fn nuthkolla_agree(s: &[u8], t: &[u8]) -> Agreed
     ensures { result ≡ spec.agreed_of (agreement s.now t.now) }
 {
     let answer = agree(s, t);

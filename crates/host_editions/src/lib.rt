@@ -34,8 +34,7 @@ fn conversion_of(answer: Converted) -> Conversion
     }
 }
 
-#[unsafe(no_mangle)]
-pub extern "C" fn nuthkolla_convert_record(
+pub fn nuthkolla_convert_record(
     bytes: &[u8],
     at: usize,
     edition: u32,

@@ -11,8 +11,7 @@ use guidance::plane::PlaneGuidance;
 use path::draw::{Drawn, draw_path, refused};
 
 // Number 255 for a kind other than a waypoint, 7 for a regime above 1, then 12 and 8.
-#[unsafe(no_mangle)]
-pub extern "C" fn nuthkolla_draw_path(
+pub fn nuthkolla_draw_path(
     guidance: PlaneGuidance,
     call: CallNumbers,
     steps: usize,

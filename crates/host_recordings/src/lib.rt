@@ -46,8 +46,7 @@ fn compaction_of(answer: Compacted) -> Compaction
     }
 }
 
-#[unsafe(no_mangle)]
-pub extern "C" fn nuthkolla_compact(bytes: &mut [u8]) -> Compaction
+pub fn nuthkolla_compact(bytes: &mut [u8]) -> Compaction
     ensures { (result ≡ spec.compaction_of (compacted bytes.old (recording bytes.old))) × (bytes.new ≡ bytes_after bytes.old (recording bytes.old)) }
 {
     let answer = compact(bytes);

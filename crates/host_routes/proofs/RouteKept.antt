@@ -1,7 +1,7 @@
 -- A route call keeps both configurations, whoever sends it, so that they need not be put back.
 -- Assumes nothing.
 use Prim.Native.Nat.{ℕ}
-use mathlib.Core.Path.{◌≡◌, refl}
+use mathlib.Core.Path.{◌≡◌, refl, ap, sym, ◌∙◌}
 use mathlib.Core.Bool.{Bool, true, false, cond}
 use mathlib.Core.List.{List}
 use lib.Dec.{eqb, ltb}
@@ -54,3 +54,14 @@ unfolding run_route_by
 route_by_keeps g caller k numbers =
     either_ran (may caller deed.RouteCall) (run_route g k numbers) (record { guidance = g; answer = record { answer = bare 13 0 0; number = k.number } })
     (route_keeps g k numbers) refl
+
+-- a guidance with other settings
+abbrev put : PlaneGuidance → Settings → PlaneGuidance
+put g t = record { config = t.config; requested = g.requested; altitude = g.altitude; tecs = g.tecs; former = t.former }
+
+-- what `nuthkolla_run_route` leaves: it puts three fields back
+pub put_back : (g : PlaneGuidance) (caller : ℕ) (k : RouteNumbers) (numbers : List Float) (r : RouteRan) → r ≡ run_route_by g caller k numbers
+    → put r.guidance (settings_of g) ≡ (run_route_by g caller k numbers).guidance
+put_back g caller k numbers r e =
+    ap (λ (y : RouteRan). put y.guidance (settings_of g)) e
+    ∙ sym (ap (put (run_route_by g caller k numbers).guidance) (route_by_keeps g caller k numbers))

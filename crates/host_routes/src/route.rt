@@ -76,8 +76,7 @@ fn loaded_of(loaded: Loaded) -> RouteLoaded
 }
 
 // Number 13 comes before every other check here and below, of the bytes too.
-#[unsafe(no_mangle)]
-pub extern "C" fn nuthkolla_load_route(
+pub fn nuthkolla_load_route(
     caller: u32,
     bytes: &[u8],
     at: usize,
@@ -91,8 +90,7 @@ pub extern "C" fn nuthkolla_load_route(
     loaded_of(Loaded::Refused(13))
 }
 
-#[unsafe(no_mangle)]
-pub extern "C" fn nuthkolla_write_route(
+pub fn nuthkolla_write_route(
     caller: u32,
     out: &mut [u8],
     at: usize,
@@ -178,8 +176,7 @@ pub fn run_route_by(g: PlaneGuidance, caller: u32, k: RouteNumbers, numbers: &[f
 }
 
 // A route call changes no configuration, neither the one in force nor the kept one, so they are not put back.
-#[unsafe(no_mangle)]
-pub extern "C" fn nuthkolla_run_route(
+pub fn nuthkolla_run_route(
     guidance: &mut PlaneGuidance,
     caller: u32,
     call: RouteNumbers,

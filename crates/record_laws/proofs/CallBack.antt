@@ -1,12 +1,12 @@
 -- The laws of the call record. Assumes nothing.
 use mathlib.Core.Path.{◌≡◌, refl, sym, ap, subst, ◌∙◌}
-use mathlib.Core.Bool.{Bool, true, false, cond, not, ◌&&◌, ◌||◌}
+use mathlib.Core.Bool.{Bool, true, false, cond, not, ◌&&◌}
 use mathlib.Core.List.{List, [], ◌∷◌, ◌++◌, append_assoc}
 use Prim.Native.Nat.{ℕ, zero, suc, ◌+◌, ◌-◌, ◌*◌, ◌/◌, ◌%◌, ◌<◌, ◌≤◌, ◌^◌}
 use native.Mathlib.Omega.{arith}
 use native.Mathlib.Nat.{pow-suc, mul_comm, div-div-eq-div-mul}
 use borrow.Author.Tests.{le-leb, le-ltb, lt-ltb, eq-eqb, eqb-true}
-use lib.Dec.{T, eqb, ltb, lit<}
+use lib.Dec.{T, eqb, lit<}
 use lib.Pow.{pow-add}
 use lib.ListN.{length, drop, get_or, replicate, get_or-replicate, length-append, length-drop}
 use lib.Seq.{drop-drop}
@@ -21,7 +21,7 @@ use Rattle.laws.specs.declared.types.VehicleState.{VehicleState}
 use Rattle.laws.specs.declared.types.FlightRegime.{FlightRegime}
 use Rattle.laws.specs.declared.types.FlightRegime.TheVariants.{Copter, Plane}
 use Rattle.fields.specs.Bytes.{number_at, bytes_of, has_bytes}
-use Rattle.fields.specs.Fields.{Field, stands, named, size_of, values_at, is_written, bit_of, map_of, body_of, number_fields, Held}
+use Rattle.fields.specs.Fields.{stands, named, size_of, values_at, is_written, bit_of, map_of, body_of, number_fields, Held}
 use Rattle.fields.specs.Numbers.{floats_of, bits_of, AreF32}
 use Rattle.fields.proofs.NumberLaw.{bytes_long, number_back, drop_bytes}
 use Rattle.fields.proofs.MapLaw.{bits_length, floats_length}

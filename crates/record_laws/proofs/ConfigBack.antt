@@ -2,10 +2,9 @@
 use mathlib.Core.Path.{◌≡◌, refl, sym, ap, subst, ◌∙◌}
 use mathlib.Core.Bool.{Bool, true, false, cond, not}
 use mathlib.Core.List.{List, [], ◌∷◌, ◌++◌, append_assoc}
-use Prim.Native.Nat.{ℕ, zero, suc, ◌+◌, ◌-◌, ◌*◌, ◌/◌, ◌<◌, ◌≤◌, ◌^◌}
+use Prim.Native.Nat.{ℕ, zero, suc, ◌+◌, ◌-◌, ◌/◌, ◌<◌, ◌≤◌, ◌^◌}
 use native.Mathlib.Omega.{arith}
-use native.Mathlib.Nat.{lt_of_lt_of_le}
-use borrow.Author.Tests.{le-leb, lt-ltb, eq-eqb}
+use borrow.Author.Tests.{le-leb, eq-eqb}
 use lib.Dec.{T, lit<}
 use lib.ListN.{length, take, drop, get_or, replicate, length-append, length-drop}
 use lib.Seq.{drop-drop, drop-cons, take_all}
@@ -14,14 +13,13 @@ use lib.Ieee.Bits.{of_bits-to_bits}
 use Rattle.laws.specs.declared.config.PlaneGuidanceConfig.{PlaneGuidanceConfig}
 use Rattle.laws.specs.Config.{default, tecs_default}
 use Rattle.fields.specs.Bytes.{number_at, bytes_of, has_bytes}
-use Rattle.fields.specs.Fields.{Field, stands, named, ones, size_of, values_at, is_written, map_of, body_of, number_fields, Held}
+use Rattle.fields.specs.Fields.{stands, named, ones, size_of, values_at, body_of, number_fields, Held}
 use Rattle.fields.specs.Numbers.{floats_of, bits_of, AreF32}
 use Rattle.fields.proofs.NumberLaw.{bytes_long, number_back, drop_bytes}
-use Rattle.fields.proofs.MapLaw.{bits_length, floats_length}
-use Rattle.fields.proofs.FieldLaw.{ones_le, numbers_long, values_long, body_long}
+use Rattle.fields.proofs.MapLaw.{floats_length}
+use Rattle.fields.proofs.FieldLaw.{ones_le, values_long, body_long}
 use Rattle.fields.proofs.RecordLaw.{map_small, fields_back, Within, size_within, all_fit_lem, floats_back, floats_are, bits_held}
 use Rattle.fields.proofs.LawsProof.{laws}
-use Rattle.records.specs.declared.config.ReadConfig.{ReadConfig}
 use Rattle.records.specs.declared.config.ReadConfig.TheVariants.{Read, Refused}
 use Rattle.config_numbers.specs.Numbers.{config_of, numbers_of}
 use Rattle.records.specs.Config.{config_fields, config_map, config_record, read_config}

@@ -1,17 +1,15 @@
 -- A recording that was written is read again. Assumes nothing.
 use mathlib.Core.Path.{◌≡◌, refl, sym, ap, ◌∙◌}
-use mathlib.Core.List.{List, [], ◌∷◌, ◌++◌, append-nil}
-use Prim.Native.Nat.{ℕ, zero, suc, ◌+◌, ◌-◌, ◌<◌, ◌≤◌}
+use mathlib.Core.List.{List, [], ◌∷◌, ◌++◌}
+use Prim.Native.Nat.{ℕ, zero, suc, ◌+◌, ◌<◌, ◌≤◌}
 use native.Mathlib.Omega.{arith}
 use borrow.Author.Tests.{le-leb, lt-leb}
 use lib.ListN.{length, drop, length-append}
 use lib.Seq.{drop_at, drop-drop}
-use Rattle.laws.specs.declared.config.PlaneGuidanceConfig.{PlaneGuidanceConfig}
 use Rattle.records.specs.declared.call.Call.{Call}
 use Rattle.records.specs.Config.{config_record}
-use Rattle.records.specs.Call.{call_record, read_call}
-use Rattle.replay.specs.Recording.{Calls, Recorded, ends, recorded, recording, read_calls}
-use Rattle.record_laws.specs.Laws.{CallF32}
+use Rattle.records.specs.Call.{call_record}
+use Rattle.replay.specs.Recording.{ends, recording, read_calls}
 use Rattle.record_laws.specs.Recordings.{call_records, recording_of, CallsF32, placed, RecordingLaw}
 use Rattle.record_laws.proofs.ConfigBack as config
 use Rattle.record_laws.proofs.CallBack.{long, stands_at}

@@ -1,10 +1,10 @@
 -- K9's claim of every list. Assumes nothing.
 use Prim.Native.Nat.{ℕ}
-use mathlib.Core.Path.{◌≡◌, refl, sym, ap, ◌∙◌}
+use mathlib.Core.Path.{◌≡◌, refl, ap, ◌∙◌}
 use mathlib.Core.Bool.{Bool, true, false, cond}
 use mathlib.Core.List.{List}
 use borrow.Author.Tests.{eqb-true}
-use Rattle.claims.specs.Calls.{Call, guide, prime, set_config, take_back}
+use Rattle.claims.specs.Calls.{guide, prime, set_config, take_back}
 use Rattle.rights.specs.Rights.{may}
 use Rattle.rights.specs.declared.Deed.TheVariants as deed
 use Rattle.rights_claims.specs.Runs.{Step, after}

@@ -1,12 +1,12 @@
 -- Why K9's claim names watchers and forbidden calls: of deckhands it is false, by computation. Assumes nothing.
 use Prim.Native.Nat.{ℕ}
 use mathlib.Core.Path.{◌≡◌, refl}
-use mathlib.Core.Bool.{Bool, true, false, cond}
+use mathlib.Core.Bool.{Bool, true, false}
 use mathlib.Core.List.{List, [], ◌∷◌}
 use lib.Dec.{eqb}
 use lib.Ieee as Ieee
 use lib.Ieee.{of_bits}
-use Rattle.arithmetic.specs.Constants.{f32, n0, n1}
+use Rattle.arithmetic.specs.Constants.{n0, n1}
 use Rattle.arithmetic.specs.Order.{finite}
 use Rattle.laws.specs.Config.{tecs_default, default}
 use Rattle.laws.specs.Tecs.{reset}

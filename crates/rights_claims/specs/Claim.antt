@@ -3,7 +3,7 @@
 use Rattle.std.specs.Prelude.{◌≡◌, Bool, true, false, List, ◌∷◌, ◌++◌}
 use Rattle.claims.specs.Calls.{unmarked}
 use Rattle.rights_claims.specs.Runs.{Step, answers, after, marks}
-use Rattle.rights_claims.specs.Sent.{Held, Told, forbidden, Sent, lent_by, act, is_forbidden, is_watchers, answer_to}
+use Rattle.rights_claims.specs.Sent.{Held, forbidden, Sent, lent_by, act, is_forbidden, is_watchers, answer_to}
 
 -- The calls that a test names, taken out of a list, leave every other answer, and what is left, as they were.
 pub record TakenOut {K A H : Type 0} (step : H → K → Step A H) (test : K → Bool) (h : H) (ks : List K) : Type 0 where

@@ -1,5 +1,5 @@
 -- The tables, computed. Assumes nothing.
-use mathlib.Core.Path.{◌≡◌, refl}
+use mathlib.Core.Path.{refl}
 use lib.Ieee.{of_bits, add, sub, mul, le, is_nan}
 use Rattle.arithmetic.specs.Order.{finite}
 use Rattle.arithmetic.specs.Root.{root_of}

@@ -51,6 +51,7 @@ fn one_map(first: u64, next: usize) -> Loaded
 }
 
 // A map and the second one behind it, in which a bit stands.
+#[tactic(auto, unfolding(crate::specs::Record::two_maps))]
 fn two_maps(first: u64, second: u64, next: usize) -> Loaded
     ensures { result ≡ spec.two_maps first second next }
 {

@@ -1,5 +1,5 @@
 -- `bits` meets its contract. Assumes nothing.
-use Rattle.std.proofs.Common.{◌≡◌, sym, refl, ap, ◌∙◌, rules}
+use Rattle.std.proofs.Common.{◌≡◌, sym, refl, ap, ◌∙◌}
 use lib.Ieee.{nan, binary32, to_bits}
 use Rattle.arithmetic.proofs.Bounds.{ne_self, nan_is}
 use Rattle.arithmetic.proofs.Signs.{is_number}

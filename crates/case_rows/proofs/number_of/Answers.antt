@@ -1,5 +1,5 @@
 -- `number_of` meets its contract. Assumes nothing.
-use Rattle.std.proofs.Common.{◌≡◌, ℕ, ◌%◌, Bool, true, false, not, T, ltb, sym, refl, ◌∙◌, subst, rules, le-ltb, lt-ltb}
+use Rattle.std.proofs.Common.{◌≡◌, ℕ, ◌%◌, Bool, true, false, not, T, ltb, sym, refl, ◌∙◌, subst, le-ltb, lt-ltb}
 use lib.Ieee.{nan, binary32, div, of_bits, nan_bits}
 use lib.Ieee.Bits.{nan_bits_is, nan_bits_above}
 use Rattle.arithmetic.proofs.Bounds.{nan_is}

@@ -1,7 +1,5 @@
 use native.Mathlib.Omega.{arith}
-use Prim.Native.Nat.{◌-◌}
-use lib.ListN.{length}
-use Rattle.compaction.proofs.Bytes.{Clearing, clear_starts, clear_turn, clear_done}
+use Rattle.compaction.proofs.Bytes.{clear_starts, clear_turn, clear_done}
 use Rattle.compaction.proofs.clear.Goals as goal
 
 pub loop-i-init : goal.loop-i-init

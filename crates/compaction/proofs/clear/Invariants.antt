@@ -1,7 +1,6 @@
-use native.Mathlib.Omega.{arith}
 use Prim.Native.Nat.{◌-◌}
 use lib.ListN.{length}
-use Rattle.compaction.proofs.Bytes.{Clearing, clear_starts, clear_turn, clear_done}
+use Rattle.compaction.proofs.Bytes.{Clearing}
 use Rattle.compaction.proofs.clear.Given as goal
 
 abbrev pub invariant-loop-i : goal.invariant-loop-i

@@ -1,9 +1,6 @@
-use native.Mathlib.Omega.{arith}
-use borrow.Author.Rules.{rules}
-use mathlib.Core.Path.{sym, ◌∙◌}
 use Prim.Native.Nat.{◌-◌}
 use lib.ListN.{length}
-use Rattle.compaction.proofs.Closing.{Closing, close_starts, close_done, close_refuses, close_asks, close_turn, close_less}
+use Rattle.compaction.proofs.Closing.{Closing}
 use Rattle.compaction.proofs.close_gaps.Given as goal
 
 abbrev pub invariant-loop-at : goal.invariant-loop-at

@@ -1,4 +1,3 @@
-use borrow.Author.Rules.{rules}
 use Rattle.compaction.proofs.Deciding.{meant, asks, finished}
 use Rattle.compaction.proofs.compact.Goals as goal
 

@@ -1,5 +1,4 @@
 use Rattle.compaction.specs.Code.Steps.{decided}
-use borrow.Author.Rules.{rules}
 use Rattle.compaction.proofs.decide.Goals as goal
 
 pub returns-in-Refused : goal.returns-in-Refused

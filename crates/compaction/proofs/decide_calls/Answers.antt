@@ -1,6 +1,5 @@
 use borrow.Author.Tests.{eq-eqb, ne_eqb}
 use Rattle.compaction.specs.Code.Steps.{decided_calls}
-use borrow.Author.Rules.{rules}
 use Rattle.compaction.proofs.decide_calls.Goals as goal
 
 pub returns-then-end-eq0 : goal.returns-then-end-eq0

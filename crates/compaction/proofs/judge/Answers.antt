@@ -1,4 +1,3 @@
-use borrow.Author.Rules.{rules}
 use Rattle.compaction.proofs.judge.Goals as goal
 
 pub returns-in-Answered : goal.returns-in-Answered

@@ -1,4 +1,3 @@
-use borrow.Author.Rules.{rules}
 use Rattle.compaction.proofs.judge_answer.Goals as goal
 
 pub returns-in-Refused : goal.returns-in-Refused

@@ -1,4 +1,3 @@
-use borrow.Author.Rules.{rules}
 use Rattle.compaction.proofs.judge_law.Goals as goal
 
 pub returns-in-Energy : goal.returns-in-Energy

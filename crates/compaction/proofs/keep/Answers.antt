@@ -1,5 +1,4 @@
 use Rattle.compaction.proofs.Bytes.{moved_none, moved_already, moved_record}
-use borrow.Author.Rules.{rules}
 use Rattle.compaction.proofs.keep.Goals as goal
 
 pub returns-then-struck : goal.returns-then-struck

@@ -1,8 +1,6 @@
 use native.Mathlib.Omega.{arith}
-use borrow.Author.Rules.{rules}
 use mathlib.Core.Path.{sym, ◌∙◌}
-use Prim.Native.Nat.{◌-◌}
-use Rattle.compaction.proofs.Reading.{Scanning, scan_starts, scan_over, scan_nine, scan_bad, scan_turn}
+use Rattle.compaction.proofs.Reading.{scan_starts, scan_over, scan_nine, scan_bad, scan_turn}
 use Rattle.compaction.proofs.scan.Goals as goal
 
 pub loop-n-init : goal.loop-n-init

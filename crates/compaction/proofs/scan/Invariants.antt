@@ -1,8 +1,5 @@
-use native.Mathlib.Omega.{arith}
-use borrow.Author.Rules.{rules}
-use mathlib.Core.Path.{sym, ◌∙◌}
 use Prim.Native.Nat.{◌-◌}
-use Rattle.compaction.proofs.Reading.{Scanning, scan_starts, scan_over, scan_nine, scan_bad, scan_turn}
+use Rattle.compaction.proofs.Reading.{Scanning}
 use Rattle.compaction.proofs.scan.Given as goal
 
 abbrev pub invariant-loop-n : goal.invariant-loop-n

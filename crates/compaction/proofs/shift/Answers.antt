@@ -1,6 +1,5 @@
 use native.Mathlib.Omega.{arith}
-use Prim.Native.Nat.{◌-◌}
-use Rattle.compaction.proofs.Bytes.{Shifting, shift_starts, shift_turn, shift_done}
+use Rattle.compaction.proofs.Bytes.{shift_starts, shift_turn, shift_done}
 use Rattle.compaction.proofs.shift.Goals as goal
 
 pub loop-i-init : goal.loop-i-init

@@ -1,6 +1,5 @@
-use native.Mathlib.Omega.{arith}
 use Prim.Native.Nat.{◌-◌}
-use Rattle.compaction.proofs.Bytes.{Shifting, shift_starts, shift_turn, shift_done}
+use Rattle.compaction.proofs.Bytes.{Shifting}
 use Rattle.compaction.proofs.shift.Given as goal
 
 abbrev pub invariant-loop-i : goal.invariant-loop-i

@@ -1,6 +1,5 @@
 -- `main` is safe and ends: each turn leaves fewer entries to 100,000. Assumes nothing.
 use Prim.Native.Nat.{◌-◌, ◌≤◌}
-use borrow.Author.Rules.{rules}
 use Rattle.records_cases.proofs.main.Given as goal
 
 abbrev pub invariant-loop-number : goal.invariant-loop-number

@@ -1,4 +1,3 @@
-use borrow.Author.Rules.{rules}
 use Rattle.host.proofs.mode.mode_value.Goals as goal
 
 pub returns-in-None : goal.returns-in-None

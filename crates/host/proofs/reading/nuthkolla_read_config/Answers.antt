@@ -1,4 +1,3 @@
-use borrow.Author.Rules.{rules}
 use Rattle.host.specs.Reading.{config_read}
 use Rattle.host.proofs.reading.nuthkolla_read_config.Goals as goal
 

@@ -1,5 +1,4 @@
 use mathlib.Core.Path.{ap}
-use borrow.Author.Rules.{rules}
 use Rattle.claims.specs.Calls.{Outcome}
 use Rattle.host.specs.Run.{run_call, performed}
 use Rattle.host.proofs.run.run_call.Goals as goal

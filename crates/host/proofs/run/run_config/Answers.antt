@@ -1,4 +1,3 @@
-use borrow.Author.Rules.{rules}
 use Rattle.host.specs.Run.{run_config, performed}
 use Rattle.claims.specs.Calls.{perform}
 use Rattle.host.proofs.run.run_config.Goals as goal

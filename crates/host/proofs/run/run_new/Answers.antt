@@ -1,4 +1,3 @@
-use borrow.Author.Rules.{rules}
 use Rattle.host.specs.Run.{run_new}
 use Rattle.host.proofs.run.run_new.Goals as goal
 

@@ -1,4 +1,3 @@
-use borrow.Author.Rules.{rules}
 use borrow.Author.Tests.{lt-ltb, le-ltb}
 use Rattle.host.specs.Writing.{unknown, call_place, call_buffer}
 use Rattle.host.proofs.writing.nuthkolla_write_call.Goals as goal

@@ -1,4 +1,3 @@
-use borrow.Author.Rules.{rules}
 use Rattle.host.specs.Writing.{config_place, config_buffer}
 use Rattle.host.proofs.writing.nuthkolla_write_config.Goals as goal
 

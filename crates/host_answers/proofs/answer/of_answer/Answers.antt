@@ -1,4 +1,3 @@
-use borrow.Author.Rules.{rules}
 use Rattle.host_answers.proofs.answer.of_answer.Goals as goal
 
 pub returns-in-Refused : goal.returns-in-Refused

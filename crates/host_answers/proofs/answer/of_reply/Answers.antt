@@ -1,4 +1,3 @@
-use borrow.Author.Rules.{rules}
 use Rattle.host_answers.proofs.answer.of_reply.Goals as goal
 
 pub returns-in-Answered : goal.returns-in-Answered

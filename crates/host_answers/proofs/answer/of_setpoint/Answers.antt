@@ -1,4 +1,3 @@
-use borrow.Author.Rules.{rules}
 use Rattle.host_answers.proofs.answer.of_setpoint.Goals as goal
 
 pub returns-in-Plane : goal.returns-in-Plane

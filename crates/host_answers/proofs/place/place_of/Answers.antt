@@ -1,4 +1,3 @@
-use borrow.Author.Rules.{rules}
 use Rattle.host_answers.proofs.place.place_of.Goals as goal
 
 pub returns-in-Next : goal.returns-in-Next

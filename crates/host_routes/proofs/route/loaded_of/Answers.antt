@@ -1,4 +1,3 @@
-use borrow.Author.Rules.{rules}
 use Rattle.host_routes.proofs.route.loaded_of.Goals as goal
 
 pub returns-in-Read : goal.returns-in-Read

@@ -1,5 +1,4 @@
 use Rattle.host_routes.specs.Route.{route_call_of}
-use borrow.Author.Rules.{rules}
 use Rattle.host_routes.proofs.route.route_call_of.Goals as goal
 
 pub returns : goal.returns

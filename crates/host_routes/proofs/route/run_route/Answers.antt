@@ -1,6 +1,5 @@
 use borrow.Author.Tests.{lt-ltb, le-ltb}
 use Rattle.host_routes.specs.Route.{run_route}
-use borrow.Author.Rules.{rules}
 use Rattle.host_routes.proofs.route.run_route.Goals as goal
 
 pub returns-then-k-gt1 : goal.returns-then-k-gt1

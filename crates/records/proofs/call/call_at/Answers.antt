@@ -1,47 +1,19 @@
 -- `call::call_at` meets its contract, by the kind. Assumes nothing.
 use borrow.Author.Tests.{eq-eqb, ne_eqb}
-use lib.Dec.{lit<}
 use Rattle.records.specs.Call.{call_at, attitude_at, rate_at, absolute_attitude_at, absolute_rate_at}
 use Rattle.records.proofs.call.call_at.Goals as goal
-
-pub bounds-v-0 : goal.bounds-v-0
-bounds-v-0 c = lit< tt
 
 pub returns-then-kind-eq0 : goal.returns-then-kind-eq0
 unfolding call_at
 returns-then-kind-eq0 c = rw (eq-eqb _ _ c.if-kind-eq0.true)
 
-pub bounds-v-3 : goal.bounds-v-3
-bounds-v-3 c = lit< tt
-
-pub bounds-v-1 : goal.bounds-v-1
-bounds-v-1 c = lit< tt
-
-pub bounds-v-2 : goal.bounds-v-2
-bounds-v-2 c = lit< tt
-
 pub returns-then-kind-eq1 : goal.returns-then-kind-eq1
 unfolding call_at attitude_at
 returns-then-kind-eq1 c = rw (ne_eqb _ _ c.if-kind-eq0.false, eq-eqb _ _ c.if-kind-eq1.true)
 
-pub bounds-v-4 : goal.bounds-v-4
-bounds-v-4 c = lit< tt
-
-pub bounds-v-1-then-kind-eq2 : goal.bounds-v-1-then-kind-eq2
-bounds-v-1-then-kind-eq2 c = lit< tt
-
-pub bounds-v-2-then-kind-eq2 : goal.bounds-v-2-then-kind-eq2
-bounds-v-2-then-kind-eq2 c = lit< tt
-
-pub bounds-v-3-then-kind-eq2 : goal.bounds-v-3-then-kind-eq2
-bounds-v-3-then-kind-eq2 c = lit< tt
-
 pub returns-then-kind-eq2 : goal.returns-then-kind-eq2
 unfolding call_at rate_at
 returns-then-kind-eq2 c = rw (ne_eqb _ _ c.if-kind-eq0.false, ne_eqb _ _ c.if-kind-eq1.false, eq-eqb _ _ c.if-kind-eq2.true)
-
-pub bounds-v-19 : goal.bounds-v-19
-bounds-v-19 c = lit< tt
 
 pub returns-then-kind-eq3 : goal.returns-then-kind-eq3
 unfolding call_at
@@ -55,15 +27,6 @@ returns-then-kind-eq3 c =
       c.state_of-state.ensures,
       c.option_of-cap.ensures,
     )
-
-pub bounds-v-1-then-kind-eq4 : goal.bounds-v-1-then-kind-eq4
-bounds-v-1-then-kind-eq4 c = lit< tt
-
-pub bounds-v-2-then-kind-eq4 : goal.bounds-v-2-then-kind-eq4
-bounds-v-2-then-kind-eq4 c = lit< tt
-
-pub bounds-v-3-then-kind-eq4 : goal.bounds-v-3-then-kind-eq4
-bounds-v-3-then-kind-eq4 c = lit< tt
 
 pub returns-then-kind-eq4 : goal.returns-then-kind-eq4
 unfolding call_at absolute_attitude_at
@@ -87,18 +50,6 @@ returns-then-kind-eq5 c =
       ne_eqb _ _ c.if-kind-eq4.false,
       eq-eqb _ _ c.if-kind-eq5.true,
     )
-
-pub bounds-v-1-2 : goal.bounds-v-1-2
-bounds-v-1-2 c = lit< tt
-
-pub bounds-v-2-2 : goal.bounds-v-2-2
-bounds-v-2-2 c = lit< tt
-
-pub bounds-v-3-2 : goal.bounds-v-3-2
-bounds-v-3-2 c = lit< tt
-
-pub bounds-v-4-2 : goal.bounds-v-4-2
-bounds-v-4-2 c = lit< tt
 
 pub returns : goal.returns
 unfolding call_at absolute_rate_at

@@ -72,15 +72,6 @@ read_numbers-v-requires c =
     (omega (arith, c.if-s-at-2.false)) _ _ c.read_byte-kind.ensures
     c.read_byte-regime.ensures
 
-pub overflow_add-result : goal.overflow_add-result
-overflow_add-result c =
-    omega (
-      arith,
-      c.if-s-at-2.false,
-      c.if-s-at.false,
-      c.well_formed,
-    )
-
 pub returns : goal.returns
 returns c =
     whole _ _

@@ -7,11 +7,6 @@ use Rattle.records.proofs.call.read_waypoint.Goals as goal
 pub read_floats-second-requires : goal.read_floats-second-requires
 read_floats-second-requires c = asks_first c.args.s.now _ _ 20 5 (omega arith) c.requires
 
-pub slice_bounds-v-end-2 : goal.slice_bounds-v-end-2
-slice_bounds-v-end-2 c =
-    let f1 = filled_first _ _ _ 20 5 (omega arith) c.requires _ _ c.read_floats-second.ensures in
-    rw (filled_long f1 (omega arith)) (omega arith)
-
 pub read_group-third-requires : goal.read_group-third-requires
 read_group-third-requires c =
     let f1 = filled_first _ _ _ 20 5 (omega arith) c.requires _ _ c.read_floats-second.ensures in

@@ -62,15 +62,6 @@ returns-then-second-gt1 c =
     (omega (arith, c.if-s-at-2.false)) _ _ c.read_byte-first.ensures
     c.read_byte-second.ensures c.if-first-gt6.false c.if-second-gt1.true)
 
-pub overflow_add-result : goal.overflow_add-result
-overflow_add-result c =
-    omega (
-      arith,
-      c.if-s-at-2.false,
-      c.if-s-at.false,
-      c.well_formed,
-    )
-
 pub returns : goal.returns
 returns c =
     ap skipped (whole _ _

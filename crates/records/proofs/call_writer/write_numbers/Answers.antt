@@ -1,5 +1,5 @@
 -- `call::write_numbers` meets its contract. Assumes nothing.
-use mathlib.Core.Path.{◌≡◌, refl, sym, ap, ◌∙◌}
+use mathlib.Core.Path.{◌≡◌, refl, ap, ◌∙◌}
 use native.Mathlib.Omega.{arith}
 use lib.Seq.{length-take-le}
 use lib.ListN.{length, take}
@@ -12,16 +12,10 @@ use Rattle.records.proofs.call_writer.write_numbers.Goals.{Start}
 five : (s : Start) → length (take 5 s.args.v.now) ≡ 5
 five s = length-take-le 5 s.args.v.now (omega (arith, s.requires.1))
 
-pub slice_bounds-write_values-end : goal.slice_bounds-write_values-end
-slice_bounds-write_values-end c = sym (five c.before.before.before.before.before)
-
 pub write_values-requires : goal.write_values-requires
 write_values-requires c =
     let s = c.before.before.before.before.before in
     rw (five s) (omega (arith, s.requires.0, front_ones 5 15 refl s.args.map c.if-map-lt32.true))
-
-pub write_values-requires-else-map-lt32 : goal.write_values-requires-else-map-lt32
-write_values-requires-else-map-lt32 c = rw c.requires.1 c.requires.0
 
 pub returns-then-map-lt32 : goal.returns-then-map-lt32
 returns-then-map-lt32 c =

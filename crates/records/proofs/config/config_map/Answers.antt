@@ -4,12 +4,8 @@ use lib.ListN.{length}
 use borrow.Author.Rules.{rules}
 use Rattle.records.proofs.ConfigLaw.{fields_are}
 use Rattle.records.proofs.config.config_map.Goals as goal
-use Rattle.records.proofs.config.config_map.Goals.{Start}
-
-long : (c : Start) → length c.args.v ≡ 33
-long c = search rules
 
 pub returns : goal.returns
 returns c =
-    let l = long c.before.before.before.before in
+    let l : length c.args.v ≡ 33 = search rules in
     (c.changed.ensures.0 ∙ rw (l, c.default_bits-missing.ensures, fields_are), rw l at c.changed.ensures.1)
