@@ -4,18 +4,24 @@
 // told by a line on standard error; a read that fails leaves standard output empty.
 #![tactic(auto)]
 
-ghost use Rattle.std.specs.Prelude.{◌≡◌, ◌≤◌, length};
+ghost use Rattle.std.specs.Prelude.{◌≡◌, ◌≤◌, length, OnOk, IfSome, IsErrOf};
+ghost use Rattle.std.specs.Io.KnownBytes.{Appends, Keeps};
 ghost use Rattle.replay.specs.Sizes.{text_room};
+ghost use Rattle.replay.specs.Text.{recording_text};
 ghost use Rattle.desk.specs.Shown.{Shown};
 
-use input::{input_room, read_input};
+use input::{input_room, read_from};
+use std::io::{Read, Write};
 
 // 4,097 lines of 80 bytes: room for every text.
 const TEXT_ROOM: usize = 4097 * 80;
 
-const STANDARD_OUTPUT: i32 = 1;
-
-const STANDARD_ERROR: i32 = 2;
+// What failed.
+#[derive(Clone, Copy)]
+enum Failure {
+    Read,
+    Write,
+}
 
 fn text_room() -> [u8; TEXT_ROOM]
     ensures { text_room ≡ length result }
@@ -31,17 +37,32 @@ fn show(read: &[u8], out: &mut [u8]) -> usize
     replay::print_text(read, out)
 }
 
-fn main() {
+// Writes the text of all that the reader has left.
+fn print<R: Read, W: Write>(reader: &mut R, writer: &mut W) -> Result<(), Failure>
+    ensures text { OnOk result (IfSome (R.remaining reader.old)
+        (λ input. Appends (W.contents writer.old) (W.contents writer.new) (recording_text input))) }
+    ensures unread { IsErrOf result Failure.Read → Keeps (W.contents writer.old) (W.contents writer.new) }
+{
     let mut bytes = input_room();
-    let got = read_input(&mut bytes);
+    let got = read_from(reader, &mut bytes);
     if got.failed {
-        io::write_all(STANDARD_ERROR, b"desk: standard input cannot be read\n");
-        return;
+        return Err(Failure::Read);
     }
     let size = got.size;
     let mut out = text_room();
     let n = show(&bytes[..size], &mut out);
-    if !io::write_all(STANDARD_OUTPUT, &out[..n]) {
-        io::write_all(STANDARD_ERROR, b"desk: standard output cannot be written\n");
+    match writer.write_all(&out[..n]) {
+        Ok(()) => Ok(()),
+        Err(_) => Err(Failure::Write),
     }
+}
+
+fn main(rt: HostRuntime) {
+    let done = print(&mut rt.reader(), &mut rt.stdout());
+    // A line that standard error does not take is lost.
+    let _ = match done {
+        Ok(()) => Ok(()),
+        Err(Failure::Read) => eprintln!(rt; "desk: standard input cannot be read"),
+        Err(Failure::Write) => eprintln!(rt; "desk: standard output cannot be written"),
+    };
 }

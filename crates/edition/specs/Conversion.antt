@@ -63,3 +63,12 @@ pub record Answers (input before after : List ℕ) (r : Done) : Type 0 where
 -- Bytes were read until the input ended or the buffer was full; `rest` is whatever follows them: the whole input is answered.
 pub record AnswersWhole (read before after : List ℕ) (r : Done) : Type 0 where
   pub whole : (rest : List ℕ) → (length read < decisive → rest ≡ []) → Answers (read ++ rest) before after r
+
+-- What goes to standard output: the records, or nothing where one of them is refused or the input is too long.
+abbrev pub written : Done → List ℕ → List ℕ
+written (Size n) bytes = bytes
+written (Stopped n r) bytes = []
+written TooLong bytes = []
+
+abbrev pub output_of : List ℕ → List ℕ
+output_of input = written (conversion input).answer (conversion input).bytes

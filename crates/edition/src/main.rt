@@ -3,18 +3,16 @@
 // and leaves standard output empty; so does input that is longer than the program holds.
 #![tactic(auto)]
 
-ghost use Rattle.std.specs.Prelude.{◌≡◌, ◌≤◌, ◌<◌, length};
+ghost use Rattle.std.specs.Prelude.{◌≡◌, ◌≤◌, ◌<◌, length, IfSome, IfOk, IsErrOf};
+ghost use Rattle.std.specs.Io.KnownBytes.{Appends, Keeps};
 ghost use Rattle.fields.specs.Bytes.{put_at};
 ghost use Rattle.replay.specs.Sizes.{decisive};
-ghost use Rattle.edition.specs.Conversion.{converted, AnswersWhole};
+ghost use Rattle.edition.specs.Conversion.{converted, conversion, AnswersWhole, output_of};
 
 use editions::{Converted, Edition, convert};
-use input::{INPUT_ROOM, input_room, read_input, tell};
+use input::{INPUT_ROOM, input_room, read_from, tell};
 use replay::turn::stopped_line;
-
-const STANDARD_OUTPUT: i32 = 1;
-
-const STANDARD_ERROR: i32 = 2;
+use std::io::{Read, Write};
 
 // How many bytes were written; or the number of the record that was refused, and its refusal; or that the input is too long.
 #[derive(Clone, Copy)]
@@ -22,6 +20,13 @@ enum Done {
     Size(usize),
     Stopped { number: u32, refusal: u32 },
     TooLong,
+}
+
+// What failed.
+#[derive(Clone, Copy)]
+enum Failure {
+    Read,
+    Write,
 }
 
 // Converts the records behind the first byte. No record is longer than the one it was read from, so that the buffer has room.
@@ -74,31 +79,41 @@ fn convert_file(s: &[u8], out: &mut [u8]) -> Done
     }
 }
 
-fn main() {
+// Writes the records of all that the reader has left, or nothing where they are refused.
+fn convert_input<R: Read, W: Write>(reader: &mut R, writer: &mut W) -> Result<Done, Failure>
+    ensures answer { IfOk result (λ done. IfSome (R.remaining reader.old)
+        (λ input. done ≡ (conversion input).answer)) }
+    ensures written { IfOk result (λ _. IfSome (R.remaining reader.old)
+        (λ input. Appends (W.contents writer.old) (W.contents writer.new) (output_of input))) }
+    ensures unread { IsErrOf result Failure.Read → Keeps (W.contents writer.old) (W.contents writer.new) }
+{
     let mut bytes = input_room();
-    let got = read_input(&mut bytes);
+    let got = read_from(reader, &mut bytes);
     if got.failed {
-        io::write_all(STANDARD_ERROR, b"edition: standard input cannot be read\n");
-        return;
+        return Err(Failure::Read);
     }
     let size = got.size;
     let mut out = input_room();
     let done = convert_file(&bytes[..size], &mut out);
-    match done {
-        Done::TooLong => {
-            io::write_all(
-                STANDARD_ERROR,
-                b"edition: standard input has more than 352393 bytes\n",
-            );
-        }
-        Done::Stopped { number, refusal } => tell(stopped_line(number, refusal)),
-        Done::Size(n) => {
-            if !io::write_all(STANDARD_OUTPUT, &out[..n]) {
-                io::write_all(
-                    STANDARD_ERROR,
-                    b"edition: standard output cannot be written\n",
-                );
-            }
+    if let Done::Size(n) = done {
+        if writer.write_all(&out[..n]).is_err() {
+            return Err(Failure::Write);
         }
     }
+    Ok(done)
+}
+
+fn main(rt: HostRuntime) {
+    let done = convert_input(&mut rt.reader(), &mut rt.stdout());
+    // A line that standard error does not take is lost.
+    let _ = match done {
+        Ok(Done::Size(_)) => Ok(()),
+        Ok(Done::TooLong) => eprintln!(rt; "edition: standard input has more than 352393 bytes"),
+        Ok(Done::Stopped { number, refusal }) => tell(
+            &mut rt.stderr(),
+            stopped_line(number, refusal),
+        ),
+        Err(Failure::Read) => eprintln!(rt; "edition: standard input cannot be read"),
+        Err(Failure::Write) => eprintln!(rt; "edition: standard output cannot be written"),
+    };
 }

@@ -1,6 +1,5 @@
 -- `show` meets its contract. Assumes nothing.
 use Rattle.desk.proofs.Law.{shown}
-use borrow.Author.Rules.{rules}
 use Rattle.desk.proofs.show.Goals as goal
 
 pub returns : goal.returns

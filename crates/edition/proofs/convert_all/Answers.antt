@@ -1,9 +1,7 @@
 -- `convert_all` meets its contract. Assumes nothing.
-use Prim.Native.Nat.{◌-◌}
 use native.Mathlib.Omega.{arith}
 use borrow.Author.Rules.{rules}
-use lib.ListN.{length}
-use Rattle.edition.proofs.Law.{Converting, same_long, converting_starts, converting_ends, converting_stops, converting_turns}
+use Rattle.edition.proofs.Law.{same_long, converting_starts, converting_ends, converting_stops, converting_turns}
 use Rattle.edition.proofs.convert_all.Goals as goal
 
 pub loop-at-init : goal.loop-at-init
@@ -11,7 +9,7 @@ loop-at-init c = converting_starts _ _ _ c.requires.1
 
 pub shape_of-out-in-Refused : goal.shape_of-out-in-Refused
 shape_of-out-in-Refused c =
-    omega (arith, c.convert-done.auto.1.1.1.0, same_long c.loop-at.invariant)
+    omega (arith, c.convert-done.auto.out, same_long c.loop-at.invariant)
 
 pub returns-in-Refused : goal.returns-in-Refused
 returns-in-Refused c =

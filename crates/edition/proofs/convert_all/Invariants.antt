@@ -1,9 +1,7 @@
 -- `convert_all` meets its contract. Assumes nothing.
 use Prim.Native.Nat.{◌-◌}
-use native.Mathlib.Omega.{arith}
-use borrow.Author.Rules.{rules}
 use lib.ListN.{length}
-use Rattle.edition.proofs.Law.{Converting, same_long, converting_starts, converting_ends, converting_stops, converting_turns}
+use Rattle.edition.proofs.Law.{Converting}
 use Rattle.edition.proofs.convert_all.Given as goal
 
 abbrev pub invariant-loop-at : goal.invariant-loop-at

@@ -1,17 +1,10 @@
--- `read_from` meets its contract. Assumes nothing.
-use mathlib.Core.Path.{◌≡◌}
-use Prim.Native.Nat.{◌≤◌, ◌-◌}
-use native.Mathlib.Omega.{arith}
-use lib.ListN.{length}
-use borrow.Author.Rules.{rules}
-use Rattle.input.proofs.Law.{counted}
+use Rattle.std.proofs.Common.{rules}
+use Rattle.input.proofs.Law.{read_more}
 use Rattle.input.proofs.read_from.Goals as goal
 
-pub returns-then-got-lt0 : goal.returns-then-got-lt0
-returns-then-got-lt0 c = counted _ _ (search rules)
-
-pub returns-then-more-eq0 : goal.returns-then-more-eq0
-returns-then-more-eq0 c = counted _ _ (search rules)
-
-pub returns : goal.returns
-returns c = counted _ _ (search rules)
+pub loop-size-preserved : goal.loop-size-preserved
+loop-size-preserved g c = (
+  search rules,
+  search rules,
+  read_more _ _ _ _ _ _ _ _ c.loop-size.invariant.2 c.in-Ok.ensures.bytes.0 c.loop-size.invariant.1 c.in-Ok.ensures.bound.0,
+)

@@ -1,14 +1,12 @@
--- `read_from` meets its contract. Assumes nothing.
-use mathlib.Core.Path.{◌≡◌}
-use Prim.Native.Nat.{◌≤◌, ◌-◌}
-use native.Mathlib.Omega.{arith}
-use lib.ListN.{length}
-use borrow.Author.Rules.{rules}
-use Rattle.input.proofs.Law.{counted}
+-- The bytes at the front are those that the reader gave.
+use Rattle.std.proofs.Common.{◌≡◌, ◌-◌, ◌≤◌, length, take}
+use Rattle.std.specs.Io.KnownBytes.{Consumes}
 use Rattle.input.proofs.read_from.Given as goal
 
 abbrev pub invariant-loop-size : goal.invariant-loop-size
-invariant-loop-size l = (length l.buffer ≡ length l.initial.buffer) × (l.size ≤ length l.buffer)
+invariant-loop-size g l =
+    (length l.buffer ≡ length l.initial.buffer) × (l.size ≤ length l.buffer)
+    × Consumes (g.R.Read.remaining l.initial.reader) (g.R.Read.remaining l.reader) (take l.size l.buffer)
 
 abbrev pub decreases-loop-size : goal.decreases-loop-size
-decreases-loop-size l = length l.buffer - l.size
+decreases-loop-size g l = length l.buffer - l.size
