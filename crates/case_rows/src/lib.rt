@@ -1,4 +1,4 @@
-// What the programs over rows of figures share: a row's words and numbers, and how many rows were right. A row that a program reads
+// What the programs over rows of figures share: reading, a row's words and numbers, and how many rows were right. A row that a program reads
 // is its own array, and a function cannot be handed on, so that each program has its own loop over its rows.
 #![tactic(auto)]
 

@@ -1,6 +1,6 @@
 -- The table of zeros and NaN, computed. Assumes nothing.
 use mathlib.Core.Path.{◌≡◌, refl}
-use mathlib.Core.List.{List, [], ◌∷◌}
+use mathlib.Core.List.{[], ◌∷◌}
 use lib.Ieee.{nan, of_bits, to_bits}
 use Rattle.fields.specs.Bytes.{number_at, bytes_of}
 use Rattle.fields.specs.Fields.{size_of, values_at, map_of, body_of, number_fields}

@@ -1,16 +1,15 @@
 -- The laws of the two editions, from those of the call record: a record of the second is one of the first with its fields turned.
 -- Assumes nothing.
-use mathlib.Core.Path.{◌≡◌, refl, sym, ap, subst, ◌∙◌}
-use mathlib.Core.Bool.{Bool, true, false, cond, not, ◌&&◌, ◌||◌}
-use mathlib.Core.Logic.{◌↔◌}
+use mathlib.Core.Path.{◌≡◌, refl, sym, ap, ◌∙◌}
+use mathlib.Core.Bool.{Bool, true, false, cond, not, ◌||◌}
 use mathlib.Core.List.{List, [], ◌∷◌, ◌++◌, append_assoc}
-use Prim.Native.Nat.{ℕ, zero, suc, ◌+◌, ◌-◌, ◌/◌, ◌%◌, ◌<◌, ◌≤◌, ◌^◌}
+use Prim.Native.Nat.{ℕ, suc, ◌+◌, ◌-◌, ◌/◌, ◌%◌, ◌<◌, ◌≤◌, ◌^◌}
 use native.Mathlib.Omega.{arith}
-use borrow.Author.Tests.{le-leb, le-ltb, eqb-true, leb-true}
-use lib.Dec.{T, eqb, ltb, leb}
-use lib.ListN.{length, take, drop, get_or, replicate, length-append, length-drop}
+use borrow.Author.Tests.{le-ltb, eqb-true, leb-true}
+use lib.Dec.{T, eqb}
+use lib.ListN.{length, drop, get_or, replicate, length-append, length-drop}
 use Rattle.fields.specs.Bytes.{number_at, bytes_of, has_bytes}
-use Rattle.fields.specs.Fields.{Field, stands, bit, named, size_of, values_at, body_of, Held, number_fields}
+use Rattle.fields.specs.Fields.{Field, bit, size_of, values_at, body_of, Held, number_fields}
 use Rattle.fields.specs.Numbers.{floats_of}
 use Rattle.fields.proofs.NumberLaw.{number_back, drop_bytes}
 use Rattle.fields.proofs.LawsProof.{laws}
@@ -25,7 +24,7 @@ use Rattle.record_laws.specs.Laws.{CallF32}
 use Rattle.record_laws.proofs.CallBack.{complete_is, values_held, held, stands_at, call_laws, call_longest}
 use Rattle.editions.specs.declared.Edition.{Edition}
 use Rattle.editions.specs.declared.Edition.TheVariants.{First, Second}
-use Rattle.editions.specs.Edition.{is_down, flip, flips, flips_standing, mark, is_of, fields_of, read_as, record_as}
+use Rattle.editions.specs.Edition.{is_down, flip, flips, flips_standing, mark, fields_of, read_as, record_as}
 use Rattle.editions.specs.Code.Steps.{turned}
 use Rattle.editions.proofs.FlipLaw.{Wide, call_wide, flip_twice, turned_body, flips_long, four}
 use Rattle.editions.proofs.Reading.{placed, below_mark, second_is}

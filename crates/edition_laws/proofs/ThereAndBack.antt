@@ -6,7 +6,6 @@ use Prim.Native.Nat.{ℕ, ◌+◌}
 use native.Mathlib.Omega.{arith}
 use borrow.Author.Tests.{leb-true}
 use lib.ListN.{length}
-use Rattle.fields.specs.declared.Written.{Written}
 use Rattle.fields.specs.declared.Written.TheVariants as write
 use Rattle.fields.specs.Bytes.{has_bytes, put_at}
 use Rattle.fields.specs.Writing.{answer_of, buffer_of}
@@ -17,10 +16,9 @@ use Rattle.records.specs.declared.call.ReadCall.TheVariants.{Read, Refused}
 use Rattle.record_laws.specs.Laws.{CallF32}
 use Rattle.editions.specs.declared.Edition.{Edition}
 use Rattle.editions.specs.declared.Edition.TheVariants.{First, Second}
-use Rattle.editions.specs.declared.Converted.{Converted}
 use Rattle.editions.specs.declared.Converted.TheVariants as converted
 use Rattle.editions.specs.Edition.{read_as, record_as, other, places, answer, buffer}
-use Rattle.edition_laws.specs.Laws.{converted_to, after, Converts, ThereAndBack, Kept}
+use Rattle.edition_laws.specs.Laws.{after, ThereAndBack, Kept}
 use Rattle.edition_laws.proofs.EditionBack.{edition_laws, edition_long, edition_held}
 
 pub other_twice : (e : Edition) → other (other e) ≡ e

@@ -1,5 +1,5 @@
 -- Zeros of both signs and NaN as the second edition has them: one table, computed. Statements only; proofs/Cases.antt proves it.
-use Rattle.std.specs.Prelude.{◌≡◌, List, [], ◌∷◌, Float}
+use Rattle.std.specs.Prelude.{◌≡◌, [], ◌∷◌, Float}
 use Rattle.std.specs.Float.{nan, binary32}
 use Rattle.std.specs.Float.Ieee.{of_bits}
 use Rattle.laws.specs.declared.types.OptionF32.TheVariants as number

@@ -1,4 +1,3 @@
-use borrow.Author.Rules.{rules}
 use Rattle.host_editions.proofs.conversion_of.Goals as goal
 
 pub returns-in-Places : goal.returns-in-Places

@@ -1,5 +1,4 @@
 use borrow.Author.Tests.{eq-eqb, ne_eqb}
-use borrow.Author.Rules.{rules}
 use Rattle.host_editions.specs.Conversion.{conversion, buffer_after}
 use Rattle.host_editions.proofs.nuthkolla_convert_record.Goals as goal
 

@@ -1,4 +1,3 @@
-use borrow.Author.Rules.{rules}
 use borrow.Author.Tests.{eq-eqb, ne_eqb, lt-ltb, le-ltb}
 use Rattle.host_path.specs.Draw.{path_answer, path_buffer}
 use Rattle.host_path.proofs.nuthkolla_draw_path.Goals as goal

@@ -1,4 +1,3 @@
-use borrow.Author.Rules.{rules}
 use Rattle.host_recordings.proofs.compaction_of.Goals as goal
 
 pub returns-in-Length : goal.returns-in-Length

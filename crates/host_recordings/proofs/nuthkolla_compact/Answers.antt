@@ -1,4 +1,3 @@
-use borrow.Author.Rules.{rules}
 use Rattle.host_recordings.proofs.nuthkolla_compact.Goals as goal
 
 pub returns : goal.returns
