@@ -1,8 +1,8 @@
 -- The laws of agreement, for every two byte strings. Assumes nothing.
 use mathlib.Core.Path.{◌≡◌, refl, sym, ap, ◌∙◌}
 use mathlib.Core.Bool.{Bool, true, false, cond}
-use mathlib.Core.List.{List, [], ◌∷◌, ◌++◌}
-use Prim.Native.Nat.{ℕ, zero, suc, ◌+◌, ◌-◌, ◌≤◌}
+use mathlib.Core.List.{List, [], ◌∷◌}
+use Prim.Native.Nat.{ℕ, ◌-◌}
 use native.Mathlib.Omega.{arith}
 use borrow.Author.Tests.{eqb-true}
 use lib.Dec.{eqb}
@@ -14,7 +14,6 @@ use Rattle.guidance.specs.Plane.{fresh}
 use Rattle.claims.specs.Calls as claims
 use Rattle.claims.specs.Calls.{replies, marks, unmarked}
 use Rattle.claims.proofs.Demand3.{demand3}
-use Rattle.config_numbers.specs.Numbers.{numbers_of}
 use Rattle.replay.specs.Recording.{Recorded, Calls, Ending, ends, stops, Recording, bad_config, recorded, most_calls, recording}
 use Rattle.replay.proofs.Window.{config_within}
 use Rattle.compaction.specs.Compaction as compaction
@@ -22,12 +21,11 @@ use Rattle.compaction.specs.Compaction.{calls_of, padded, compacted, compacted_c
 use Rattle.compaction.specs.Laws.{Shortened}
 use Rattle.compaction.specs.declared.Compacted.{Compacted}
 use Rattle.compaction.specs.declared.Compacted.TheVariants as short
-use Rattle.compaction.proofs.Again.{no_marks, unmarked_none, marks_again}
+use Rattle.compaction.proofs.Again.{unmarked_none, marks_again}
 use Rattle.compaction.proofs.Short.{AllRead, all_unmarked, calls_unmarked, Whole, whole}
 use Rattle.compaction.proofs.LawsProof.{Opened, opened, laws as short-laws}
 use Rattle.agreement.specs.Agreement.{same_list, config_values, call_values, Numbered, settings, remaining, part_calls, parted, or_refused, agreement}
 use Rattle.agreement.specs.Laws.{Agree, Read, OneStory, Laws}
-use Rattle.agreement.specs.declared.Agreement.{Agreement}
 use Rattle.agreement.specs.declared.Agreement.TheVariants as answer
 use Rattle.agreement.proofs.Same.{same_refl, same_eq}
 use Rattle.agreement.proofs.Values.{config_eq, values_of_calls, values_of_numbered, numbered_values, calls_eq}

@@ -1,10 +1,10 @@
 -- The values of two calls, from the parts that their records have. Assumes nothing.
-use mathlib.Core.Path.{◌≡◌, refl, sym, ap, ◌∙◌}
+use mathlib.Core.Path.{◌≡◌, refl, sym, ◌∙◌}
 use mathlib.Core.Bool.{Bool, true, false, ◌&&◌}
-use mathlib.Core.List.{List, [], ◌∷◌, ◌++◌}
+use mathlib.Core.List.{List}
 use Prim.Native.Nat.{ℕ}
 use lib.Dec.{eqb}
-use lib.ListN.{length, replicate}
+use lib.ListN.{length}
 use Rattle.fields.specs.Numbers.{bits_of}
 use Rattle.records.specs.Call.{command_parts, waypoint_parts, parts_of, values_of}
 use Rattle.records.specs.declared.call_writer.Parts.{Parts}

@@ -2,10 +2,10 @@
 use mathlib.Core.Path.{◌≡◌, refl, sym, ap, ◌∙◌}
 use mathlib.Core.Bool.{Bool, true, false, cond, not}
 use mathlib.Core.List.{List, [], ◌∷◌}
-use Prim.Native.Nat.{ℕ, zero, suc, ◌+◌, ◌-◌, ◌<◌, ◌≤◌}
+use Prim.Native.Nat.{ℕ, suc, ◌+◌, ◌-◌, ◌<◌, ◌≤◌}
 use native.Mathlib.Omega.{arith}
 use borrow.Author.Tests.{ne_eqb, leb-true, leb-false}
-use lib.Dec.{eqb, leb}
+use lib.Dec.{leb}
 use lib.ListN.{length}
 use Rattle.guidance.specs.declared.plane.PlaneGuidance.{PlaneGuidance}
 use Rattle.claims.specs.Calls.{Outcome, perform, refused, replies, refusals, struck, fell_back, strikes, unmarked}
@@ -15,7 +15,7 @@ use Rattle.records.specs.declared.call.Call.TheVariants.{Prime}
 use Rattle.records.specs.declared.call.ReadCall.TheVariants as read
 use Rattle.calls.specs.Calls.{call_of, as_outcome}
 use Rattle.calls.specs.declared.Performed.{Performed}
-use Rattle.replay.specs.Recording.{Recorded, Calls, no_calls, with_call, Ending, ends, stops, most_calls, read_calls}
+use Rattle.replay.specs.Recording.{Recorded, Calls, no_calls, Ending, ends, stops, most_calls, read_calls}
 use Rattle.compaction.specs.Compaction.{calls_of}
 use Rattle.compaction.specs.declared.Judged.{Judged}
 use Rattle.compaction.specs.Code.Steps.{judged}
@@ -23,7 +23,6 @@ use Rattle.compaction.proofs.Reading.{calls_over, calls_nine, calls_bad, calls_m
 use Rattle.compaction.proofs.Judging.{marked, judged_is}
 use Rattle.agreement.specs.Agreement.{Numbered, numbered}
 use Rattle.agreement.specs.declared.Place.{Place}
-use Rattle.agreement.specs.declared.Told.{Told}
 use Rattle.agreement.specs.Code.Steps.{told, told_from, Next}
 
 abbrev pub place : PlaneGuidance → ℕ → Bool → ℕ → Place

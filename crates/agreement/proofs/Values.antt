@@ -1,17 +1,15 @@
 -- Equal values are equal calls and configurations, of records that were read. Assumes nothing.
 use mathlib.Core.Path.{◌≡◌, refl, sym, ap, ◌∙◌}
-use mathlib.Core.Bool.{Bool, true, false, cond}
-use mathlib.Core.List.{List, [], ◌∷◌, ◌++◌, map}
-use Prim.Native.Nat.{ℕ, zero, suc, ◌+◌}
+use mathlib.Core.Bool.{Bool, true, false}
+use mathlib.Core.List.{List, [], ◌∷◌, ◌++◌}
+use Prim.Native.Nat.{ℕ, ◌+◌}
 use native.Mathlib.Omega.{arith}
 use lib.ListN.{length, take, drop, replicate}
-use lib.Ieee.{Float, nan, binary32, of_bits}
 use Rattle.laws.specs.declared.config.PlaneGuidanceConfig.{PlaneGuidanceConfig}
 use Rattle.laws.specs.declared.types.ControlInput.TheVariants as Input
 use Rattle.fields.specs.Bytes.{bytes_of}
 use Rattle.fields.specs.Fields.{map_of, body_of}
 use Rattle.fields.specs.Numbers.{bits_of}
-use Rattle.config_numbers.specs.Numbers.{numbers_of}
 use Rattle.records.specs.Config.{config_fields, config_map, config_record, read_config}
 use Rattle.records.specs.Call.{call_fields, command_parts, waypoint_parts, parts_of, values_of, map_of_parts, call_record, read_call}
 use Rattle.records.specs.declared.config.ReadConfig.TheVariants as config
@@ -25,7 +23,7 @@ use Rattle.claims.specs.Calls.{unmarked}
 use Rattle.calls.specs.Calls.{call_of}
 use Rattle.replay.specs.Recording.{Recorded}
 use Rattle.compaction.specs.Compaction.{calls_of}
-use Rattle.compaction.proofs.Short.{ReadAt, AllRead, none, one}
+use Rattle.compaction.proofs.Short.{AllRead, none, one}
 use Rattle.agreement.specs.Agreement.{config_values, call_values, Numbered, numbered}
 
 -- ---- one configuration, one call

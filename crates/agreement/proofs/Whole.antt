@@ -1,17 +1,14 @@
 -- The answer of the two passes is the definition's. Assumes nothing.
-use mathlib.Core.Path.{◌≡◌, refl, sym, ap, ◌∙◌}
-use mathlib.Core.Bool.{Bool, true, false, cond, not}
-use mathlib.Core.List.{List, [], ◌∷◌}
-use Prim.Native.Nat.{ℕ, ◌+◌, ◌-◌}
+use mathlib.Core.Path.{◌≡◌}
+use mathlib.Core.Bool.{Bool, true, false, not}
+use mathlib.Core.List.{List}
+use Prim.Native.Nat.{ℕ}
 use native.Mathlib.Omega.{arith}
-use lib.Dec.{eqb}
 use lib.ListN.{length}
-use Rattle.laws.specs.declared.config.PlaneGuidanceConfig.{PlaneGuidanceConfig}
 use Rattle.guidance.specs.Plane.{fresh}
 use Rattle.guidance.specs.declared.plane.PlaneGuidance.{PlaneGuidance}
-use Rattle.replay.specs.Recording.{Recording, recorded, recording, most_calls, read_calls}
+use Rattle.replay.specs.Recording.{recorded, recording, most_calls, read_calls}
 use Rattle.compaction.specs.Compaction.{short, compacted}
-use Rattle.compaction.specs.declared.Compacted.{Compacted}
 use Rattle.compaction.specs.declared.Compacted.TheVariants as short-answer
 use Rattle.compaction.specs.declared.Decided.{Decided}
 use Rattle.compaction.specs.declared.Decided.TheVariants as ruling

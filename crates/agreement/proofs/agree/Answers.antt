@@ -1,5 +1,4 @@
 -- `agree` meets its contract: the answer is the definition's. Assumes nothing.
-use borrow.Author.Rules.{rules}
 use mathlib.Core.Path.{◌∙◌}
 use Rattle.agreement.proofs.Whole.{answered}
 use Rattle.agreement.proofs.agree.Goals as goal

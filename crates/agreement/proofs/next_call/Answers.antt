@@ -1,9 +1,7 @@
 -- `next_call` meets its contract: the calls from each turn on are those after the place of entry. Assumes nothing.
 use native.Mathlib.Omega.{arith}
-use borrow.Author.Rules.{rules}
 use mathlib.Core.Path.{sym, ◌∙◌}
-use Prim.Native.Nat.{◌-◌}
-use Rattle.agreement.proofs.Story.{place, Seeking, seek_starts, seek_over, seek_bad, seek_most, seek_turn, seek_found}
+use Rattle.agreement.proofs.Story.{seek_starts, seek_over, seek_bad, seek_most, seek_turn, seek_found}
 use Rattle.agreement.proofs.next_call.Goals as goal
 
 pub loop-n-init : goal.loop-n-init

@@ -1,7 +1,5 @@
 -- `part_calls` meets its contract: the calls from each turn on part as those from the first on. Assumes nothing.
-use borrow.Author.Rules.{rules}
-use mathlib.Core.Path.{◌∙◌}
-use Rattle.agreement.proofs.Meeting.{Meeting, left, meet_starts, from_places, meet_box, meet_display, meet_ends, meet_parts, meet_turn, meet_less}
+use Rattle.agreement.proofs.Meeting.{Meeting, left}
 use Rattle.agreement.proofs.part_calls.Given as goal
 
 abbrev pub invariant-loop-x : goal.invariant-loop-x

@@ -1,8 +1,6 @@
 -- `same_bytes` meets its contract: what is left to hold equal decides. Assumes nothing.
 use native.Mathlib.Omega.{arith}
-use Prim.Native.Nat.{◌-◌}
-use lib.ListN.{length}
-use Rattle.agreement.proofs.Same.{Holding, hold_starts, hold_turn, hold_differs, hold_done}
+use Rattle.agreement.proofs.Same.{hold_starts, hold_turn, hold_differs, hold_done}
 use Rattle.agreement.proofs.same_bytes.Goals as goal
 
 pub loop-i-init : goal.loop-i-init

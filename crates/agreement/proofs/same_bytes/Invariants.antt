@@ -1,8 +1,7 @@
 -- `same_bytes` meets its contract: what is left to hold equal decides. Assumes nothing.
-use native.Mathlib.Omega.{arith}
 use Prim.Native.Nat.{◌-◌}
 use lib.ListN.{length}
-use Rattle.agreement.proofs.Same.{Holding, hold_starts, hold_turn, hold_differs, hold_done}
+use Rattle.agreement.proofs.Same.{Holding}
 use Rattle.agreement.proofs.same_bytes.Given as goal
 
 abbrev pub invariant-loop-i : goal.invariant-loop-i

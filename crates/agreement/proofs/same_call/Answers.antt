@@ -1,5 +1,4 @@
 -- `same_call` meets its contract, by the parts of both calls. Assumes nothing.
-use borrow.Author.Rules.{rules}
 use Rattle.agreement.proofs.Parts.{keeps_fit, values_same}
 use Rattle.agreement.proofs.same_call.Goals as goal
 

@@ -1,4 +1,3 @@
-use borrow.Author.Rules.{rules}
 use Rattle.agreement.specs.Agreement.{config_values}
 use Rattle.agreement.proofs.same_config.Goals as goal
 

@@ -1,5 +1,4 @@
 -- `same_numbers` meets its contract: no number differs. Assumes nothing.
-use borrow.Author.Rules.{rules}
 use Rattle.agreement.proofs.Same.{changed_none}
 use Rattle.agreement.proofs.same_numbers.Goals as goal
 

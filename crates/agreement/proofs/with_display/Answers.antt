@@ -1,5 +1,4 @@
 -- `with_display` meets its contract, by what the display's recording is. Assumes nothing.
-use borrow.Author.Rules.{rules}
 use Rattle.agreement.proofs.with_display.Goals as goal
 
 pub returns-in-Refused : goal.returns-in-Refused

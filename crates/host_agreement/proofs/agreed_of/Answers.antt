@@ -1,4 +1,3 @@
-use borrow.Author.Rules.{rules}
 use Rattle.host_agreement.proofs.agreed_of.Goals as goal
 
 pub returns-in-Agree : goal.returns-in-Agree

@@ -1,4 +1,3 @@
-use borrow.Author.Rules.{rules}
 use Rattle.host_agreement.proofs.nuthkolla_agree.Goals as goal
 
 pub returns : goal.returns
