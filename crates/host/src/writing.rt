@@ -9,6 +9,7 @@ use records::call_writer::write_call;
 use records::config::write_config;
 
 // Writes a call's record at a place; number 7 for a kind above 6 or a regime above 1, number 8 for too little room.
+#[tactic(auto, unfolding(crate::specs::Writing::unknown, crate::specs::Writing::call_place, crate::specs::Writing::call_buffer))]
 pub fn nuthkolla_write_call(out: &mut [u8], at: usize, call: CallNumbers) -> Place
     ensures { (result ≡ spec.call_place call out.old at) × (out.new ≡ spec.call_buffer call out.old at) }
 {
