@@ -1,4 +1,4 @@
--- Document 01, "Arithmetic, the lowest crate", in its order. `code` has the code's own steps.
+-- Document 01, "Arithmetic, the lowest crate", in its order. `Code` has the code's own steps.
 pub mod Constants
 pub mod Order
 pub mod Root

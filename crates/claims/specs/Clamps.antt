@@ -29,7 +29,7 @@ Ordered low high = Ieee.le low high ≡ true
 pub record FixedBounds : Type 0 where
   -- saturate_throttle
   pub throttle : Ordered n0 n1
-  -- clamp_symmetric, and so saturateUnit: a limit that is NaN or below 0 is 0
+  -- clamp_symmetric, and so saturate_unit: a limit that is NaN or below 0 is 0
   pub symmetric : (limit : Float) → Ordered (neg (limit_or_zero limit)) (limit_or_zero limit)
   -- the capture of a track: its sine and its angle
   pub ratio : Ordered (neg n1) n1

@@ -1,4 +1,4 @@
--- Document 01, "Helpers, configuration", "L1 laws" and "Energy law and fallback". `code` has the code's own steps.
+-- Document 01, "Helpers, configuration", "L1 laws" and "Energy law and fallback". `Code` has the code's own steps.
 pub mod Math
 pub mod Types
 pub mod Config

@@ -26,7 +26,7 @@ use Rattle.path.specs.declared.model.Stepped.{Stepped}
 
 -- ---- the plane
 
--- Turn rate: GRAVITY times sine over cosine of the answered roll, over over_ground speed, worked left to right, and 0 below 1.0 m/s.
+-- Turn rate: GRAVITY times sine over cosine of the answered roll, over ground speed, worked left to right, and 0 below 1.0 m/s.
 unfoldable pub turn_rate : Float → Float → Float
 turn_rate roll speed = cond (Ieee.lt speed n1) n0 (gravity ·ᶠ sine roll /ᶠ cosine roll /ᶠ speed)
 
@@ -41,7 +41,7 @@ turned_right v turn = record {
   y = v.x ·ᶠ sine turn +ᶠ v.y ·ᶠ cosine turn;
 }
 
--- airspeed, or the over_ground speed before the turn if there is none
+-- airspeed, or the ground speed before the turn if there is none
 abbrev pub speed_or : OptionF32 → Float → Float
 speed_or None speed = speed
 speed_or (Some airspeed) speed = airspeed
