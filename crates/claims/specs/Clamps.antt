@@ -67,7 +67,7 @@ pub record EnergyBounds (t : TecsConfig) (limits : Limits) (inputs : Inputs) : T
       Ordered (low -ᶠ high) (high -ᶠ low)
   pub pitch : Ordered (neg limits.pitch_down_rad) limits.pitch_up_rad
 
--- a fallback's: piFinite's output, and its own thrust
+-- a fallback's: pi_finite's output, and its own thrust
 pub record FallbackBounds (c : PlaneGuidanceConfig) (limits : Limits) : Type 0 where
   pub correction :
       let low = neg limits.pitch_down_rad -ᶠ c.trim_pitch_rad in
