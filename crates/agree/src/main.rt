@@ -13,7 +13,7 @@ use replay::turn::{refused_line, stopped_line};
 use std::fs::File;
 use std::rt::Files;
 
-// The descriptor 3: std opens files by their names alone.
+// Descriptor 3, opened anew by its name, since std reaches no descriptor by its number: a file is read from its start.
 const DISPLAY_INPUT: &str = "/dev/fd/3";
 
 // No line has more bytes, and no number more digits.
