@@ -78,12 +78,12 @@ module _ {s t : List ℕ} {x₀ y₀ x y : Told} (f : Meeting s t x₀ y₀ x y)
       → cond (same_list (call_values x.call) (call_values y.call)) (part_calls (told s x.place) (told t y.place)) (answer.Part (number x) (number y)) ≡ All
   both h k = sym (rw (from_one s x h, from_one t y k) (part_both (one x) (one y) (told s x.place) (told t y.place))) ∙ f.is
 
-  pub meet_parts : (number x ≡ 0 → ⊥) → (number y ≡ 0 → ⊥) → (r : Bool) → r ≡ same_list (call_values x.call) (call_values y.call) → r ≡ false
+  pub meet_parts : (number x ≡ 0 → ⊥) → (number y ≡ 0 → ⊥) → (r : Bool) → r ≡ same_list (call_values x.call) (call_values y.call) → not r ≡ true
       → answer.Part (number x) (number y) ≡ All
   meet_parts h k true e q = let z : ◌≡◌ {A = ℕ} 0 1 = cc in absurd (omega arith)
   meet_parts h k false e q = rw (sym e) at (both h k)
 
-  pub meet_turn : (number x ≡ 0 → ⊥) → (number y ≡ 0 → ⊥) → (r : Bool) → r ≡ same_list (call_values x.call) (call_values y.call) → r ≡ true
+  pub meet_turn : (number x ≡ 0 → ⊥) → (number y ≡ 0 → ⊥) → (r : Bool) → r ≡ same_list (call_values x.call) (call_values y.call) → not r ≡ false
       → (v w : Told) → Next s x.place v → Next t y.place w → Meeting s t x₀ y₀ v w
   meet_turn h k true e q v w p o = record {
     is = from_places p o ∙ (rw (sym e) at (both h k));

@@ -47,12 +47,12 @@ parted_is s t o p = rw (settings_are o, settings_are p, calls_are o, calls_are p
 -- ---- `part`
 
 module _ (s : List ℕ) (g : PlaneGuidance) (at : ℕ) (t : List ℕ) (h : PlaneGuidance) (place : ℕ) where
-  pub parted_differs : (r : Bool) → r ≡ same_list (config_values g.config) (config_values h.config) → r ≡ false → answer.Part 0 0 ≡ step.parted s g at t h place
+  pub parted_differs : (r : Bool) → r ≡ same_list (config_values g.config) (config_values h.config) → not r ≡ true → answer.Part 0 0 ≡ step.parted s g at t h place
   unfolding step.parted
   parted_differs true e q = let z : ◌≡◌ {A = ℕ} 0 1 = cc in absurd (omega arith)
   parted_differs false e q = rw (← e)
 
-  pub parted_same : (r : Bool) → r ≡ same_list (config_values g.config) (config_values h.config) → r ≡ true
+  pub parted_same : (r : Bool) → r ≡ same_list (config_values g.config) (config_values h.config) → not r ≡ false
       → (x : Agreement) → x ≡ part_calls (told s (start g at)) (told t (start h place)) → x ≡ step.parted s g at t h place
   unfolding step.parted
   parted_same true e q x p = rw (← e) p
