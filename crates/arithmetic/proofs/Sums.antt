@@ -300,12 +300,12 @@ between_finite (fin s m e) (inf false) (fin t n d) a b p q = never q
 between_finite (fin s m e) (fin t n d) hi a b p q = refl
 
 -- a sum that is a number has a number on its right
-pub add-number : (x y : Float) → is_nan (Ieee.add binary32 x y) ≡ false → is_nan y ≡ false
+pub add_number : (x y : Float) → is_nan (Ieee.add binary32 x y) ≡ false → is_nan y ≡ false
 unfolding Ieee.add is_nan
-add-number nan y e = never' e
-add-number (inf s) nan e = never' e
-add-number (inf s) (inf t) e = refl
-add-number (inf s) (fin t n d) e = refl
-add-number (fin s m x) nan e = never' e
-add-number (fin s m x) (inf t) e = refl
-add-number (fin s m x) (fin t n d) e = refl
+add_number nan y e = never' e
+add_number (inf s) nan e = never' e
+add_number (inf s) (inf t) e = refl
+add_number (inf s) (fin t n d) e = refl
+add_number (fin s m x) nan e = never' e
+add_number (fin s m x) (inf t) e = refl
+add_number (fin s m x) (fin t n d) e = refl

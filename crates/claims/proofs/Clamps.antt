@@ -177,8 +177,8 @@ module _ (c : PlaneGuidanceConfig) (e : validate c ≡ 0) (cap : OptionF32) (q :
       balance_rate = spans _ _ _ _ (product_left gravity_positive sink_least) rate_least;
       total_rate = spans _ _ _ _ (product_left gravity_positive least_sink) rate_least;
       thrust = thrust_span c v;
-      thrust-integral = λ p n. widen _ _ _ margin_positive (less _ _ p least_finite top_finite n (thrust_span c v));
-      pitch-integral = difference (neg down) up down_finite up_finite (pitch_span c cap v q);
+      thrust_integral = λ p n. widen _ _ _ margin_positive (less _ _ p least_finite top_finite n (thrust_span c v));
+      pitch_integral = difference (neg down) up down_finite up_finite (pitch_span c cap v q);
       pitch = pitch_span c cap v q;
     }
 

@@ -30,7 +30,7 @@ use Rattle.arithmetic.proofs.Bounds.{
   zero_number,
   eq_self,
 }
-use Rattle.arithmetic.proofs.Sums.{le_trans, sub_mono, neg_finite, between_finite, add-number}
+use Rattle.arithmetic.proofs.Sums.{le_trans, sub_mono, neg_finite, between_finite, add_number}
 use Rattle.laws.specs.Config.{within, first_failing, tecs_default, default, validate}
 use Rattle.laws.proofs.Validated.{valid_field}
 use Rattle.laws.specs.Math.{limit_or_zero, clamp_symmetric}
@@ -225,7 +225,7 @@ module _ (g : PlaneGuidance) (dt : Float) (w : WaypointCommand) (s : VehicleStat
       Corrected g.config cap (trim +ᶠ clamp x low (greatest high low))
   corrected x n =
       let k = clamp x low (greatest high low) in
-      let b = span x low (greatest high low) (add-number trim k n) (greatest_right high low (left_number low high correction_span)) in
+      let b = span x low (greatest high low) (add_number trim k n) (greatest_right high low (left_number low high correction_span)) in
       record {
         correction = k;
         sum = refl;

@@ -17,7 +17,7 @@ use Rattle.laws.specs.declared.config.PlaneGuidanceConfig.{PlaneGuidanceConfig}
 use Rattle.laws.proofs.Validated.{valid_field}
 use Rattle.laws.proofs.Bank.{bank_sign, bank_from_0, clamped_from_0, clamped_sign}
 use Rattle.laws.proofs.StraightBack as Laws
-use Rattle.laws.proofs.StraightBack.{leg-right, leg-from-0, tangent-right}
+use Rattle.laws.proofs.StraightBack.{leg_right, leg_from_0, tangent_right}
 use Rattle.laws.specs.declared.types.OptionF32.{OptionF32}
 use Rattle.laws.specs.declared.types.ControlInput.TheVariants as Input
 use Rattle.laws.specs.declared.types.WaypointCommand.{WaypointCommand}
@@ -106,24 +106,24 @@ rolls c w s none t = record {
   answer = λ g dt regime cap e. (answered g dt regime w s cap none (subst (λ (k : PlaneGuidanceConfig). TurnsRight (roll_of k w s) none) (sym e) t)).is;
 }
 
-leg-roll :
+leg_roll :
     (c : PlaneGuidanceConfig) (w : WaypointCommand) (s : VehicleState) (direction : Vec2) → validate c ≡ 0 →
     TieOnLeg w s direction → TurnsRight (roll_of c w s) (no_bank c || no_turn c w s direction)
 unfolding roll_of lateral_accel l1
-leg-roll c w s direction v t =
+leg_roll c w s direction v t =
     rw t.present
     (turns c v (track_accel (position s) (velocity s) w.position_m t.leg c.l1_period_s c.l1_damping).accel_mps2
     (no_turn c w s direction)
-    (leg-from-0 (position s) (velocity s) w.position_m c.loiter_radius_m c.l1_period_s c.l1_damping (damping_above c v)
+    (leg_from_0 (position s) (velocity s) w.position_m c.loiter_radius_m c.l1_period_s c.l1_damping (damping_above c v)
     (period_above c v) w.position_m t.leg direction t.normalised t.straight_back)
-    (leg-right (position s) (velocity s) w.position_m c.loiter_radius_m c.l1_period_s c.l1_damping (damping_above c v)
+    (leg_right (position s) (velocity s) w.position_m c.loiter_radius_m c.l1_period_s c.l1_damping (damping_above c v)
     (period_above c v) w.position_m t.leg direction t.normalised t.under_way t.straight_back))
 
-tangent-roll :
+tangent_roll :
     (c : PlaneGuidanceConfig) (w : WaypointCommand) (s : VehicleState) (direction : Vec2) → validate c ≡ 0 →
     T (fits binary32 c.loiter_radius_m) → TieOnTangent w s direction → TurnsRight (roll_of c w s) (no_bank c)
 unfolding roll_of lateral_accel
-tangent-roll c w s direction v f t =
+tangent_roll c w s direction v f t =
     rw t.no_leg
     (subst (TurnsRight _) (or_false (no_bank c))
     (turns c v (loiter_accel (position s) (velocity s) w.position_m c.loiter_radius_m c.l1_period_s c.l1_damping).accel_mps2 false
@@ -133,12 +133,12 @@ tangent-roll c w s direction v f t =
         lt n0 ((loiter_accel (position s) (velocity s) w.position_m c.loiter_radius_m c.l1_period_s c.l1_damping).accel_mps2 /ᶠ gravity)
         ≡ true
     above =
-        tangent-right (position s) (velocity s) w.position_m c.loiter_radius_m c.l1_period_s c.l1_damping (damping_above c v)
+        tangent_right (position s) (velocity s) w.position_m c.loiter_radius_m c.l1_period_s c.l1_damping (damping_above c v)
         (period_above c v) t.outward direction t.off_centre t.normalised t.under_way t.straight_back (radius_above c v)
         (radius_finite c v) f
 
 pub leg_turns_right : LegTurnsRight
-leg_turns_right c w s direction v t = rolls c w s _ (leg-roll c w s direction v t)
+leg_turns_right c w s direction v t = rolls c w s _ (leg_roll c w s direction v t)
 
 pub tangent_turns_right : TangentTurnsRight
-tangent_turns_right c w s direction v f t = rolls c w s _ (tangent-roll c w s direction v f t)
+tangent_turns_right c w s direction v f t = rolls c w s _ (tangent_roll c w s direction v f t)

@@ -96,7 +96,7 @@ all_valid = (refl, refl, refl, refl)
 
 -- to the right; then max_bank_rad 0; a position that is NaN, one infinitely far north, and finite ones whose difference overflows; a
 -- damping of 1e38, one of 1e-30
-each-alone :
+each_alone :
     (told (with bank45 usual) n0 n0 ≡ true ∷ false ∷ false ∷ false ∷ false ∷ [])
     × (told (with n0 usual) n0 n0 ≡ false ∷ true ∷ false ∷ false ∷ false ∷ [])
     × (told (with bank45 usual) n0 nan ≡ false ∷ false ∷ true ∷ false ∷ false ∷ [])
@@ -107,7 +107,7 @@ each-alone :
 unfolding roll_of lateral_accel finite_leg all_finite track_accel track_by track_along l1 capture course bank_for_accel clamp_symmetric limit_or_zero
     clamp sine arcsine arctangent arctangent_of_size part series size finite normalise norm dot cross root_of no_course default tecs_default
     is_nan of_bits lt le eq neg add sub mul div
-each-alone = (refl, refl, refl, refl, refl, refl, refl)
+each_alone = (refl, refl, refl, refl, refl, refl, refl)
 
 -- 100 m north of a loiter's centre, 16 m/s west: its tangent leads east
 on_tangent : TieOnTangent (to n0 Leg.None) (flying (f32 0x42c80000) n0 (f32 0xc1800000)) (record { x = neg n0; y = n1 })

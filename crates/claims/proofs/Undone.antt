@@ -69,7 +69,7 @@ undone c before d between rest valid may =
     let near = taken_near (after g between) (after h between) p in
     record {
       accepted = ap (λ (x : PlaneGuidance). (perform x take_back).reply) to_change ∙ taken_reply (after g between) (after h between) p;
-      leaves-no-trace =
+      leaves_no_trace =
           ap (λ (x : PlaneGuidance). replies x (up_to_take_back rest)) to_take
           ∙ replies_near (perform (after h between) take_back).next (after g between) near rest
           ∙ ap (λ (x : PlaneGuidance). replies x (up_to_take_back rest)) (sym (after_both (fresh c) before between));

@@ -57,11 +57,11 @@ pub record EnergyBounds (t : TecsConfig) (limits : Limits) (inputs : Inputs) : T
   -- feedforward and balanced_thrust
   pub thrust : Ordered limits.min_thrust limits.max_thrust
   -- balancedThrust's integral: for every proportional thrust but NaN
-  pub thrust-integral :
+  pub thrust_integral :
       (proportional : Float) → is_nan proportional ≡ false →
       Ordered (limits.min_thrust -ᶠ proportional -ᶠ thrust_integral_margin) (limits.max_thrust -ᶠ proportional +ᶠ thrust_integral_margin)
   -- pitch
-  pub pitch-integral :
+  pub pitch_integral :
       let low = neg limits.pitch_down_rad in
       let high = limits.pitch_up_rad in
       Ordered (low -ᶠ high) (high -ᶠ low)

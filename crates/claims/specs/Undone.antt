@@ -34,6 +34,6 @@ pub record Undone (c : PlaneGuidanceConfig) (before : List Call) (d : PlaneGuida
   -- the taking back is accepted
   pub accepted : (perform (after (fresh c) (before ++ (set_config d ∷ between))) take_back).reply ≡ back 0
   -- up to the next taking back `rest` gets the same replies
-  pub leaves-no-trace :
+  pub leaves_no_trace :
       replies (after (fresh c) (before ++ (set_config d ∷ (between ++ (take_back ∷ []))))) (up_to_take_back rest) ≡
       replies (after (fresh c) (before ++ between)) (up_to_take_back rest)

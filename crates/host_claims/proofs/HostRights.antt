@@ -68,5 +68,5 @@ pub host_rights : (h : Held) (sent : List Sent) → HostRights h sent
 host_rights h sent = record {
   no_forbidden = taken_out step is_forbidden forbidden_keeps h sent;
   no_watchers = taken_out step is_watchers watchers_keep h sent;
-  forbidden-kept = λ before k rest at. kept (after step h before) k;
+  forbidden_kept = λ before k rest at. kept (after step h before) k;
 }

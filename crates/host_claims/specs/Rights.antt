@@ -144,7 +144,7 @@ pub record HostRights (h : Held) (sent : List Sent) : Type 0 where
   pub no_forbidden : TakenOut step is_forbidden h sent
   pub no_watchers : TakenOut step is_watchers h sent
   -- a forbidden call is told 13, and all that is held or lent is kept
-  pub forbidden-kept :
+  pub forbidden_kept :
       (before : List Sent) (k : Sent) (rest : List Sent) → sent ≡ before ++ (k ∷ rest) →
       let held = after step h before in
       is_forbidden k ≡ true →

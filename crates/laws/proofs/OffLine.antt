@@ -30,11 +30,11 @@ under true x y h = refl
 under false x y h = h refl
 
 module _ (position velocity point : Vec2) (radius period damping : Float) where
-  along-line :
+  along_line :
       (through direction : Vec2) (speed : Float) →
       (track_along position velocity through direction speed period damping).cross_track_m ≡ off_line position through (Parts direction)
   unfolding track_along
-  along-line through direction speed = refl
+  along_line through direction speed = refl
 
   tracked :
       (through : Vec2) (n : Normalised) →
@@ -44,7 +44,7 @@ module _ (position velocity point : Vec2) (radius period damping : Float) where
   tracked through None = nothing (no_course (norm velocity))
   tracked through (Parts direction) =
       given_up (no_course (norm velocity)) true _
-      ∙ under (no_course (norm velocity)) _ _ (λ h. along-line through direction (norm velocity))
+      ∙ under (no_course (norm velocity)) _ _ (λ h. along_line through direction (norm velocity))
 
   around :
       (n : Normalised) → no_course (norm velocity) ≡ false →
@@ -53,13 +53,13 @@ module _ (position velocity point : Vec2) (radius period damping : Float) where
   around None h = refl
   around (Parts outward) h = rw h at (tracked (along point outward radius) (normalise (right_of outward) least_leg))
 
-  pub cross-track-is :
+  pub cross_track_is :
       (leg : OptionVec2) →
       (lateral_accel leg position velocity point radius period damping).cross_track_m ≡ cross_track leg position velocity point radius
   unfolding lateral_accel loiter_accel track_accel cross_track
-  cross-track-is Leg.None =
+  cross_track_is Leg.None =
       let slow = no_course (norm velocity) in
       given_up (slow || is_nan radius || le radius n0) slow _
       ∙ under (slow || is_nan radius || le radius n0) _ _
       (λ h. around (normalise (difference position point) least_offset) (or_left slow (is_nan radius) (or_left (slow || is_nan radius) (le radius n0) h)))
-  cross-track-is (Leg.Some leg) = tracked point (normalise leg least_leg)
+  cross_track_is (Leg.Some leg) = tracked point (normalise leg least_leg)

@@ -160,12 +160,12 @@ module _ (position velocity point direction : Vec2) (speed period damping : Floa
   factor = n4 ·ᶠ damping ·ᶠ damping ·ᶠ speed ·ᶠ speed /ᶠ distance
 
   -- document 02's K5: the law's acceleration at a tie is that of a quarter turn to the right
-  pub at-a-tie :
+  pub at_a_tie :
       tie direction velocity ≡ true → is_nan (capture_of position velocity point direction distance) ≡ false →
       (track_along position velocity point direction speed period damping).accel_mps2
       ≡ choose (finite (factor ·ᶠ sine frac_pi2)) (factor ·ᶠ sine frac_pi2) n0
   unfolding track_along l1
-  at-a-tie straight number = rw (steers_right position velocity point direction distance straight number)
+  at_a_tie straight number = rw (steers_right position velocity point direction distance straight number)
 
   lost : is_nan (capture_of position velocity point direction distance) ≡ true → (track_along position velocity point direction speed period damping).accel_mps2 ≡ n0
   unfolding track_along l1 finite
@@ -194,17 +194,17 @@ module _ (position velocity point direction : Vec2) (speed period damping : Floa
           → plus (track_along position velocity point direction speed period damping).accel_mps2 ≡ true
       go true h = rw (lost h) zero_plus
       go false h =
-          rw (at-a-tie straight h)
+          rw (at_a_tie straight h)
           (plus_choose (finite (factor ·ᶠ sine frac_pi2)) (factor ·ᶠ sine frac_pi2) (quarter_turn_plus d p s))
 
   -- the acceleration over gravity is above 0, unless the capture angle is NaN, or the quarter turn's acceleration is not finite or over
   -- gravity rounds to 0
-  pub right-unless :
+  pub right_unless :
       tie direction velocity ≡ true → plus damping ≡ true → plus period ≡ true → plus speed ≡ true →
       lt n0 ((track_along position velocity point direction speed period damping).accel_mps2 /ᶠ gravity)
       ≡ not (is_nan (capture_of position velocity point direction distance) || not (finite (factor ·ᶠ sine frac_pi2))
       || eq (factor ·ᶠ sine frac_pi2 /ᶠ gravity) n0)
-  right-unless straight d p s = go (is_nan (capture_of position velocity point direction distance)) refl
+  right_unless straight d p s = go (is_nan (capture_of position velocity point direction distance)) refl
     where
       turn : Float
       turn = factor ·ᶠ sine frac_pi2
@@ -217,14 +217,14 @@ module _ (position velocity point direction : Vec2) (speed period damping : Floa
           → lt n0 ((track_along position velocity point direction speed period damping).accel_mps2 /ᶠ gravity)
           ≡ not (b || not (finite turn) || eq (turn /ᶠ gravity) n0)
       go true h = rw (lost h) level_bank
-      go false h = rw (at-a-tie straight h) (by (finite turn) refl)
+      go false h = rw (at_a_tie straight h) (by (finite turn) refl)
 
 -- a loiter adds its circle's acceleration, which is to the right too
-pub loiter-never-left :
+pub loiter_never_left :
     (speed radius tracked : Float) → plus speed ≡ true → plus radius ≡ true → plus tracked ≡ true →
     plus (centripetal speed radius +ᶠ tracked) ≡ true
 unfolding centripetal
-loiter-never-left speed radius tracked s r t =
+loiter_never_left speed radius tracked s r t =
     plus_add (speed ·ᶠ speed /ᶠ radius) tracked (plus_div (speed ·ᶠ speed) radius (plus_mul speed speed s s) r) t
 
 -- ---- the laws, for a valid damping, period and radius
@@ -267,11 +267,11 @@ module _ (position velocity point : Vec2) (radius period damping : Float) (d : l
       (or_right (is_nan (norm velocity)) (lt (norm velocity) n1) h)
 
   -- a leg: no acceleration to the left at a tie, wherever the plane is
-  pub leg-never-left :
+  pub leg_never_left :
       (through leg direction : Vec2) → normalise leg least_leg ≡ Parts direction → tie direction velocity ≡ true →
       plus (track_accel position velocity through leg period damping).accel_mps2 ≡ true
   unfolding track_accel track_by
-  leg-never-left through leg direction n straight = rw n (go (no_course (norm velocity)) refl)
+  leg_never_left through leg direction n straight = rw n (go (no_course (norm velocity)) refl)
     where
       go : (b : Bool) → no_course (norm velocity) ≡ b
           → plus (cond b (level true) (track_along position velocity through direction (norm velocity) period damping)).accel_mps2 ≡ true
@@ -281,21 +281,21 @@ module _ (position velocity point : Vec2) (radius period damping : Float) (d : l
           (plus_above_0 period p) (no_less h)
 
   -- a loiter's tangent
-  pub tangent-never-left :
+  pub tangent_never_left :
       (outward direction : Vec2) → normalise (difference position point) least_offset ≡ Parts outward →
       normalise (right_of outward) least_leg ≡ Parts direction → tie direction velocity ≡ true → lt n0 radius ≡ true →
       plus (loiter_accel position velocity point radius period damping).accel_mps2 ≡ true
   unfolding loiter_accel loiter_by
-  tangent-never-left outward direction o n straight r = rw o (go (slow || is_nan radius || le radius n0) refl)
+  tangent_never_left outward direction o n straight r = rw o (go (slow || is_nan radius || le radius n0) refl)
     where
       slow : Bool
       slow = no_course (norm velocity)
 
       tracked : plus (track_accel position velocity (along point outward radius) (right_of outward) period damping).accel_mps2 ≡ true
-      tracked = leg-never-left (along point outward radius) (right_of outward) direction n straight
+      tracked = leg_never_left (along point outward radius) (right_of outward) direction n straight
 
       around : slow ≡ false → plus (loiter_by position velocity point radius period damping (Parts outward)).accel_mps2 ≡ true
-      around h = loiter-never-left (norm velocity) radius _ (no_less h) (plus_above_0 radius r) tracked
+      around h = loiter_never_left (norm velocity) radius _ (no_less h) (plus_above_0 radius r) tracked
 
       go : (b : Bool) → slow || is_nan radius || le radius n0 ≡ b
           → plus (cond b (level slow) (loiter_by position velocity point radius period damping (Parts outward))).accel_mps2 ≡ true
@@ -320,32 +320,32 @@ module _ (position velocity point : Vec2) (radius period damping : Float) (d : l
       go false = chosen_finite _
 
   -- a leg: by the quarter turn's acceleration
-  pub leg-right :
+  pub leg_right :
       (through leg direction : Vec2) → normalise leg least_leg ≡ Parts direction → no_course (norm velocity) ≡ false → tie direction velocity ≡ true →
       let turn = factor position velocity through direction (norm velocity) period damping ·ᶠ sine frac_pi2 in
       lt n0 ((track_accel position velocity through leg period damping).accel_mps2 /ᶠ gravity)
       ≡ not (is_nan (capture_of position velocity through direction (distance position velocity through direction (norm velocity) period damping))
       || not (finite turn) || eq (turn /ᶠ gravity) n0)
   unfolding track_accel track_by
-  leg-right through leg direction n course straight =
+  leg_right through leg direction n course straight =
       rw (n, course)
-      (right-unless position velocity through direction (norm velocity) period damping straight (plus_above_0 damping d) (plus_above_0 period p) (no_less course))
+      (right_unless position velocity through direction (norm velocity) period damping straight (plus_above_0 damping d) (plus_above_0 period p) (no_less course))
 
-  pub leg-from-0 :
+  pub leg_from_0 :
       (through leg direction : Vec2) → normalise leg least_leg ≡ Parts direction → tie direction velocity ≡ true →
       le n0 ((track_accel position velocity through leg period damping).accel_mps2 /ᶠ gravity) ≡ true
   unfolding track_accel
-  leg-from-0 through leg direction n straight =
-      over_gravity _ (leg-never-left through leg direction n straight) (finite_number _ (track_finite through (normalise leg least_leg)))
+  leg_from_0 through leg direction n straight =
+      over_gravity _ (leg_never_left through leg direction n straight) (finite_number _ (track_finite through (normalise leg least_leg)))
 
   -- a loiter's tangent: at least 2 ^ -132, since the ground speed is at least 1 and the radius below 2 ^ 128
-  pub tangent-right :
+  pub tangent_right :
       (outward direction : Vec2) → normalise (difference position point) least_offset ≡ Parts outward →
       normalise (right_of outward) least_leg ≡ Parts direction → no_course (norm velocity) ≡ false → tie direction velocity ≡ true →
       lt n0 radius ≡ true → finite radius ≡ true → T (fits binary32 radius) →
       lt n0 ((loiter_accel position velocity point radius period damping).accel_mps2 /ᶠ gravity) ≡ true
   unfolding loiter_accel loiter_by centripetal track_accel
-  tangent-right outward direction o n course straight r f h =
+  tangent_right outward direction o n course straight r f h =
       rw (course, lt_right n0 radius r, not_at_most_0 radius r, o)
       (is_above 1 (2 ^ 132) _ (omega arith)
       (div_least 1 (2 ^ 128) 16 1 1 (2 ^ 132) _ gravity (pow_pos 132) (omega arith) (held 1 132 (omega arith) (omega arith)) around gravity_within gravity_above))
@@ -369,4 +369,4 @@ module _ (position velocity point : Vec2) (radius period damping : Float) (d : l
       around : AtLeast 1 (2 ^ 128) (speed ·ᶠ speed /ᶠ radius +ᶠ tracked)
       around =
           both_least 1 0 (2 ^ 128) (speed ·ᶠ speed /ᶠ radius) tracked (pow_pos 128) (omega arith) (held 1 128 (omega arith) (omega arith)) circle
-          (plus_least (2 ^ 128) tracked (leg-never-left (along point outward radius) (right_of outward) direction n straight) tracked_finite)
+          (plus_least (2 ^ 128) tracked (leg_never_left (along point outward radius) (right_of outward) direction n straight) tracked_finite)

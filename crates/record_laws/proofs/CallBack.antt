@@ -528,14 +528,14 @@ module _ (m : ℕ) (s : List ℕ) (v : List Float) (ev : v ≡ floats_of (values
     at_bit : (k n : ℕ) → 2 + k ≡ n → stands (halved k (m / 2 / 2)) ≡ stands (m / 2 ^ n)
     at_bit k n e = rw (halved_is k (m / 2 / 2), third_on m k, e)
 
-    leg-left :
+    leg_left :
         (stands (halved 7 (m / 2 / 2)) ≡ false
         → is_written (has_leg (leg_of (m / 2 ^ 9) (spec.at v 9) (spec.at v 10)))
         (to_bits binary32 (leg_north (leg_of (m / 2 ^ 9) (spec.at v 9) (spec.at v 10)))) 0 ≡ false)
         × (stands (halved 8 (m / 2 / 2)) ≡ false
         → is_written (has_leg (leg_of (m / 2 ^ 9) (spec.at v 9) (spec.at v 10)))
         (to_bits binary32 (leg_east (leg_of (m / 2 ^ 9) (spec.at v 9) (spec.at v 10)))) 0 ≡ false)
-    leg-left = (
+    leg_left = (
       λ e. (legs_left (m / 2 ^ 9) (spec.at v 9) (spec.at v 10) (sym (at_bit 7 9 refl) ∙ e)).0,
       λ e. (legs_left (m / 2 ^ 9) (spec.at v 9) (spec.at v 10) (ap (λ (x : ℕ). eqb x 1) q ∙ sym (at_bit 8 10 refl) ∙ e)).1,
     )
@@ -568,9 +568,9 @@ module _ (m : ℕ) (s : List ℕ) (v : List Float) (ev : v ≡ floats_of (values
                 (
                   used 6 (lit< tt),
                   (
-                    leg-left.0,
+                    leg_left.0,
                     (
-                      leg-left.1,
+                      leg_left.1,
                       (
                         used 9 (lit< tt),
                         (

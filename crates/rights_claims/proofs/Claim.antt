@@ -46,8 +46,8 @@ pub rights_kept : (h : Held) (sent : List Sent) → RightsKept h sent
 rights_kept h sent = record {
   no_forbidden = taken_out answer_to is_forbidden forbidden_keeps h sent;
   no_watchers = taken_out answer_to is_watchers watchers_keep h sent;
-  forbidden-kept = λ before k rest at. kept (after answer_to h before) k;
-  allowed-done = λ before k rest at. obeyed (after answer_to h before) k;
+  forbidden_kept = λ before k rest at. kept (after answer_to h before) k;
+  allowed_done = λ before k rest at. obeyed (after answer_to h before) k;
 }
 
 -- a call record is a guide or a prime, and both have one right: a host's can be judged before its bytes are read

@@ -16,11 +16,11 @@ pub record RightsKept (h : Held) (sent : List Sent) : Type 0 where
   -- all that watchers send, their reports too
   pub no_watchers : TakenOut answer_to is_watchers h sent
   -- a forbidden call is told 13, and guidance, route, number and lent bytes are kept; any other does what it does without a caller
-  pub forbidden-kept :
+  pub forbidden_kept :
       (before : List Sent) (k : Sent) (rest : List Sent) → sent ≡ before ++ (k ∷ rest) →
       let held = after answer_to h before in
       is_forbidden k ≡ true → answer_to held k ≡ record { answer = forbidden (lent_by k.wants); left = held }
-  pub allowed-done :
+  pub allowed_done :
       (before : List Sent) (k : Sent) (rest : List Sent) → sent ≡ before ++ (k ∷ rest) →
       let held = after answer_to h before in
       is_forbidden k ≡ false → answer_to held k ≡ act held k.wants

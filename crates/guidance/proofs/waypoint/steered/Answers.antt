@@ -1,5 +1,5 @@
 use Rattle.laws.proofs.Idle.{idle_is}
-use Rattle.laws.proofs.OffLine.{cross-track-is}
+use Rattle.laws.proofs.OffLine.{cross_track_is}
 use Rattle.guidance.specs.Plane.{lateral_law, roll_of, cross_track_of}
 use Rattle.guidance.proofs.waypoint.steered.Goals as goal
 
@@ -17,5 +17,5 @@ returns c =
       c2.north_east.ensures,
       c2.finite_leg-leg.ensures,
       idle_is _ _ _ _ _ _ _,
-      cross-track-is _ _ _ _ _ _ _,
+      cross_track_is _ _ _ _ _ _ _,
     )
