@@ -179,6 +179,7 @@ fn write_numbers(part: &mut [u8], from: usize, numbers: &[f32])
 }
 
 // How many bytes a route's maps have: a second map is written only when one of its bits stands.
+#[tactic(auto, using(crate::proofs::MapsLaw::one_map_long, crate::proofs::MapsLaw::two_maps_long))]
 fn maps_size(map: u64) -> usize
     ensures { (result ≡ length (spec.maps_bytes map)) × (result ≤ 8) }
 {
