@@ -1,5 +1,6 @@
 // The path into a lent buffer, three numbers a point.
 ghost use Rattle.std.specs.Prelude.{◌≡◌, ◌++◌, ◌≤◌, ◌*◌, length, drop};
+ghost use Rattle.path.specs.Model as model_spec;
 ghost use Rattle.path.specs.Path as spec;
 
 use crate::model::{Model, WaypointCall, step};
@@ -37,16 +38,50 @@ fn put_point(part: &mut [f32], p: Vec3)
     part[2] = p.z;
 }
 
-fn draw_steps(start: Model, call: WaypointCall, steps: usize, out: &mut [f32]) -> Drawn
-    requires { (steps ≤ 600) × (3 * steps ≤ length out.old) }
-    ensures { (result ≡ spec.told (spec.path steps call start)) × (out.new ≡ spec.put (spec.path steps call start).points out.old) }
+// Whether a step moved the model, and else why not.
+#[derive(Clone, Copy)]
+struct Moved {
+    moved: bool,
+    reason: u32,
+}
+
+// One step in place, out of line, so that a path stays within the stack that include/nuthkolla.h names: in the loop's own line what no
+// step changes would be worked out before the loop and kept on the stack. A step changes no configuration, so they are not put back.
+#[inline(never)]
+fn advance(m: &mut Model, call: &WaypointCall) -> Moved
+    ensures { record { moved = result.moved; reason = result.reason; model = m.new } ≡ model_spec.step call.now m.old }
 {
-    let mut m = start;
+    let guidance = PlaneGuidance {
+        config: m.guidance.config,
+        requested: m.guidance.requested,
+        altitude: m.guidance.altitude,
+        tecs: m.guidance.tecs,
+        former: m.guidance.former,
+    };
+    let state = m.state;
+    let s = step(Model { guidance, state }, *call);
+    if s.moved {
+        m.guidance.requested = s.model.guidance.requested;
+        m.guidance.altitude = s.model.guidance.altitude;
+        m.guidance.tecs = s.model.guidance.tecs;
+        m.state = s.model.state;
+    }
+    Moved {
+        moved: s.moved,
+        reason: s.reason,
+    }
+}
+
+fn draw_steps(g: PlaneGuidance, call: WaypointCall, steps: usize, out: &mut [f32]) -> Drawn
+    requires { (steps ≤ 600) × (3 * steps ≤ length out.old) }
+    ensures { (result ≡ spec.told (spec.path steps call (spec.start g call))) × (out.new ≡ spec.put (spec.path steps call (spec.start g call)).points out.old) }
+{
+    let state = call.state;
+    let mut m = Model { guidance: g, state };
     let mut n: usize = 0;
     while n < steps {
-        let s = step(m, call);
+        let s = advance(&mut m, &call);
         if s.moved {
-            m = s.model;
             let state = m.state;
             let point = state.position_m;
             let at = 3 * n;
@@ -82,6 +117,5 @@ pub fn draw_path(g: PlaneGuidance, call: WaypointCall, steps: usize, out: &mut [
     if out.len() < 3 * steps {
         return refused(8);
     }
-    let state = call.state;
-    draw_steps(Model { guidance: g, state }, call, steps, out)
+    draw_steps(g, call, steps, out)
 }
