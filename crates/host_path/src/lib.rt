@@ -1,4 +1,4 @@
-// The turn to come, drawn for a host. The guidance comes by value: it is not changed, and no reference has to be walked by hand.
+// The turn to come, drawn for a host. The guidance comes by value: it is not changed.
 // Whoever draws acts as the skipper (document 02, K9): there is no caller to judge.
 // A crate and so an object of its own: in one with `nuthkolla_run` the guidance would be called from two places, and neither inlined.
 #![tactic(auto)]
