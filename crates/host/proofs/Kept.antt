@@ -2,8 +2,8 @@
 -- the code's branch for changes is the definition.
 -- Assumes nothing.
 use mathlib.Core.Path.{◌≡◌, refl, ap, sym, ◌∙◌}
-use mathlib.Core.Bool.{Bool, true, false, cond}
-use lib.Dec.{eqb}
+use mathlib.Core.Bool.{Bool, true, false, not, cond}
+use lib.Dec.{T, eqb}
 use mathlib.Core.List.{List}
 use Prim.Native.Nat.{ℕ}
 use Rattle.guidance.specs.Plane.{cleared, primed}
@@ -17,7 +17,7 @@ use Rattle.records.specs.declared.call.ReadCall.TheVariants as read
 use Rattle.calls.specs.Calls.{call_of}
 use Rattle.host_answers.proofs.Kept.{guided_keeps}
 use Rattle.rights.specs.Rights.{may}
-use Rattle.host.specs.Run.{of_call, unchanged, performed, run_call, run, deed_of, run_by}
+use Rattle.host.specs.Run.{of_call, unchanged, performed, run_call, run, deed_of, may_run, run_by}
 use Rattle.host.specs.Code.Dispatch.{change, change_by}
 use Rattle.host.specs.declared.run.Ran.{Ran}
 
@@ -59,6 +59,15 @@ put_back g caller bytes r e =
     ap (λ (y : Ran). put y.guidance (settings_of g)) e ∙ sym (ap (put (run_by g caller 0 bytes).guidance) (run_by_keeps g caller bytes))
 
 -- where the number is not 0
-pub change_is_run : (g : PlaneGuidance) (caller what : ℕ) (bytes : List ℕ) → eqb what 0 ≡ false → change_by g caller what bytes ≡ run_by g caller what bytes
+left : {A : Type 0} (x y : A) (b : Bool) → T (not b) → y ≡ cond b x y
+left x y false z = refl
+left x y true z = absurd z
+
+pub change_is_run : (g : PlaneGuidance) (caller what : ℕ) (bytes : List ℕ) → T (not (eqb what 0)) → change_by g caller what bytes ≡ run_by g caller what bytes
 unfolding change_by change run_by run
-change_is_run g caller what bytes z = rw z
+change_is_run g caller what bytes z = ap (λ (r : Ran). cond (may_run caller what) r (unchanged g 13 0 0)) (left (run_call g bytes) (change g what bytes) (eqb what 0) z)
+
+-- the same, by the test as the code has it
+pub change_run : (g : PlaneGuidance) (caller what : ℕ) (bytes : List ℕ) → eqb what 0 ≡ false → change_by g caller what bytes ≡ run_by g caller what bytes
+unfolding change_by change run_by run
+change_run g caller what bytes z = rw z

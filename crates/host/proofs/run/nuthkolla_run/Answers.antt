@@ -3,7 +3,7 @@ use borrow.Author.Tests.{ne_eqb}
 use Prim.Native.Nat.{ℕ}
 use Rattle.host.specs.Run.{run_by}
 use Rattle.host.specs.declared.run.Ran.{Ran}
-use Rattle.host.proofs.Kept.{put_back, change_is_run}
+use Rattle.host.proofs.Kept.{put_back, change_run}
 use Rattle.host.proofs.run.nuthkolla_run.Goals as goal
 
 pub returns-then-what-eq0 : goal.returns-then-what-eq0
@@ -17,6 +17,6 @@ returns-then-what-eq0 c =
 
 pub returns-else-what-eq0 : goal.returns-else-what-eq0
 returns-else-what-eq0 c =
-    let is = change_is_run c.args.guidance.now c.args.caller c.args.what c.args.bytes.now (ne_eqb _ _ c.if-what-eq0.false) in
+    let is = change_run c.args.guidance.now c.args.caller c.args.what c.args.bytes.now (ne_eqb _ _ c.if-what-eq0.false) in
     let r = c.change_by-r.ensures ∙ is in
     (ap (λ (y : Ran). y.guidance) r, ap (λ (y : Ran). y.answer) r)
