@@ -44,8 +44,10 @@ def up_to_date(program, *more):
     if not program.is_file():
         raise Missing(f"{name} is not built")
     built = program.stat().st_mtime
-    folders = [file for file in (ROOT / "crates").rglob("*") if file.is_file()]
-    if any(file.stat().st_mtime > built for file in (ROOT / "crates.txt", *folders, *more)):
+    # rt writes into crates/*/out/ at any time.
+    parts = [part for part in (ROOT / "crates").glob("*/*") if part.name != "out"]
+    sources = [file for part in parts for file in (part, *part.rglob("*")) if file.is_file()]
+    if any(file.stat().st_mtime > built for file in (ROOT / "crates.txt", *sources, *more)):
         raise Missing(f"{name} is older than its sources")
     return str(program)
 

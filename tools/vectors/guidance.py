@@ -7,7 +7,7 @@ The calls, answers and stored states are the oracle's fixed list (tools/oracle/f
 01's unstarred case and figures from runs of the published Rust; the fixed list has to give them too. `past_the_limit` is
 worked out here, from document 01's form of a fallback's limits.
 
-A row is 56 u32 words, low byte first. Numbers are their bits, every NaN 7fc00000; what a row does not use is 0.
+A row is 53 u32 words, low byte first. Numbers are their bits, every NaN 7fc00000; what a row does not use is 0.
 
     0       kind: that of a call record, 7 set-configuration, 8 new, 9 a taking back
     1..33   of 7 and 8: the configuration
@@ -20,8 +20,6 @@ A row is 56 u32 words, low byte first. Numbers are their bits, every NaN 7fc0000
     38..41  the setpoint's numbers; of a waypoint its distance off the line too
     42..52  the state after it: requested regime; altitude integral; seeded; slewed height, height, airspeed demand; filtered
             airspeed, steady acceleration; pitch integral, thrust integral; underspeed
-    53..55  the settings after it: 1 if a configuration is kept to be taken back; the sum of the bits of the one in force, and of the kept
-            one, the default where there is none, as the oracle's state lines have them
 """
 import pathlib
 import struct
@@ -30,13 +28,14 @@ import sys
 HERE = pathlib.Path(__file__).resolve().parent
 CRATE = HERE.parent.parent / "crates/guidance_cases"
 FIXED = HERE.parent / "oracle/fixed"
-WORDS = 56
+WORDS = 53
 PRIME, WAYPOINT, SET_CONFIG, NEW, TAKE_BACK = 0, 3, 7, 8, 9
 sys.path.insert(0, str(FIXED))
 import by_hand  # noqa: E402
 
 LATERAL = {"track": 1, "loiter": 2, "idle": 3}
 VERTICAL = {"energy": 1, "hold": 2, "fallback": 3}
+FRESH = [1] + [0] * 10
 
 # The lines of calls, by file and call number; without the distance off the line where `off` has such.
 FIGURES = {
@@ -127,23 +126,9 @@ def answer(line):
 
 
 def state(line):
-    """Words 42 to 55: in a state line only the flags are no bits."""
+    """Words 42 to 52: in a state line only the flags are no bits."""
     said = line.split()[2:]
-    settings = [int(said[11]), int(said[12], 16), int(said[13], 16)]
-    return [int(said[0])] + [int(text, 16) for text in said[1:10]] + [int(said[10])] + settings
-
-
-def sum_of(config):
-    """A configuration as one number."""
-    total = 0
-    for word in config:
-        total = (16777619 * total + word) % 2**32
-    return total
-
-
-def fresh(config):
-    """Words 42 to 55 of what `new` makes of a configuration."""
-    return [1] + [0] * 11 + [sum_of(config), sum_of(defaults())]
+    return [int(said[0])] + [int(text, 16) for text in said[1:10]] + [int(said[10])]
 
 
 def modes():
@@ -161,7 +146,7 @@ def row(words, answered, after):
         words = words + [0] * (25 - len(words)) + MODES[after[0]]
     padded = words + [0] * (34 - len(words)) + answered + after
     assert len(padded) == WORDS
-    return struct.pack(f"<{WORDS}I", *padded)
+    return struct.pack("<53I", *padded)
 
 
 def recording(path, is_list):
@@ -171,7 +156,7 @@ def recording(path, is_list):
     lines = (FIXED / f"{name}.lines").read_text().splitlines()
     states = (FIXED / f"{name}.state").read_text().splitlines()
     config, at = configuration(data, 0)
-    rows = [row([NEW] + config, [0] * 8, fresh(config))]
+    rows = [row([NEW] + config, [0] * 8, FRESH)]
     for number, (line, after) in enumerate(zip(lines, states, strict=True), 1):
         if name == "idle" and line.split()[1] != by_hand.IDLE[number - 1][0]:
             sys.exit(f"guidance.py: {name} has '{line}' where {by_hand.IDLE[number - 1]} is known")
@@ -206,7 +191,7 @@ def configurations():
         config, at = configuration(raw(text), 0)
         assert at == len(raw(text))
         refused = int(said[0].split()[-1]) if said else 0
-        rows.append(row([NEW] + config, [refused] + [0] * 7, [0] * 14 if refused else fresh(config)))
+        rows.append(row([NEW] + config, [refused] + [0] * 7, [0] * 11 if refused else FRESH))
     return "configurations", rows
 
 
@@ -229,7 +214,7 @@ def past_the_limit():
     config = [trim if n == 6 else default for n, default in enumerate(defaults())]
     call_words = [WAYPOINT, 1, bits(1.0)] + [0] * 13 + [bits(1000.0)]
     answered = [0, LATERAL["idle"], VERTICAL["fallback"], 1, 0, bits(pitch), bits(0.5 + share), 0]
-    return "past_the_limit", [row([NEW] + config, [0] * 8, fresh(config)), row(call_words, answered, fresh(config))]
+    return "past_the_limit", [row([NEW] + config, [0] * 8, FRESH), row(call_words, answered, FRESH)]
 
 
 def main():

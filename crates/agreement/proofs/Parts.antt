@@ -1,53 +1,53 @@
 -- The values of two calls, from the parts that their records have. Assumes nothing.
-use mathlib.Core.Path.{_≡_, refl, sym, ap, _∙_}
-use mathlib.Core.Bool.{Bool, true, false, _&&_}
-use mathlib.Core.List.{List, [], _∷_, _++_}
+use mathlib.Core.Path.{◌≡◌, refl, sym, ◌∙◌}
+use mathlib.Core.Bool.{Bool, true, false, ◌&&◌}
+use mathlib.Core.List.{List}
 use Prim.Native.Nat.{ℕ}
 use lib.Dec.{eqb}
-use lib.ListN.{length, replicate}
-use Rattle·fields.specs.Numbers.{bitsOf}
-use Rattle·records.specs.Call.{commandParts, waypointParts, partsOf, valuesOf}
-use Rattle·records.specs.declared.call_writer.Parts.{Parts}
-use Rattle·records.specs.declared.call.Call.{Call}
-use Rattle·records.specs.declared.call.Call.the-variants.{Prime, Attitude, Rate, Waypoint, AbsoluteAttitude, Land, AbsoluteRate}
-use Rattle·agreement·specs.specs.Agreement.{sameList, callValues}
-use Rattle·agreement·proofs.proofs.Same.{same-append}
+use lib.ListN.{length}
+use Rattle.fields.specs.Numbers.{bits_of}
+use Rattle.records.specs.Call.{command_parts, waypoint_parts, parts_of, values_of}
+use Rattle.records.specs.declared.call_writer.Parts.{Parts}
+use Rattle.records.specs.declared.call.Call.{Call}
+use Rattle.records.specs.declared.call.Call.TheVariants.{Prime, Attitude, Rate, Waypoint, AbsoluteAttitude, Land, AbsoluteRate}
+use Rattle.agreement.specs.Agreement.{same_list, call_values}
+use Rattle.agreement.proofs.Same.{same_append}
 
-keeps-long : (k : Call) → length (partsOf k .keeps) ≡ 20
-unfolding partsOf commandParts waypointParts
-keeps-long Prime = refl
-keeps-long (Attitude r dt c) = refl
-keeps-long (Rate r dt c) = refl
-keeps-long (Waypoint r dt c s cap) = refl
-keeps-long (AbsoluteAttitude r dt c) = refl
-keeps-long (Land r dt) = refl
-keeps-long (AbsoluteRate r dt c) = refl
+keeps_long : (k : Call) → length (parts_of k).keeps ≡ 20
+unfolding parts_of command_parts waypoint_parts
+keeps_long Prime = refl
+keeps_long (Attitude r dt c) = refl
+keeps_long (Rate r dt c) = refl
+keeps_long (Waypoint r dt c s cap) = refl
+keeps_long (AbsoluteAttitude r dt c) = refl
+keeps_long (Land r dt) = refl
+keeps_long (AbsoluteRate r dt c) = refl
 
-bits-long : (k : Call) → length (bitsOf (partsOf k .numbers)) ≡ 20
-unfolding partsOf commandParts waypointParts bitsOf
-bits-long Prime = refl
-bits-long (Attitude r dt c) = refl
-bits-long (Rate r dt c) = refl
-bits-long (Waypoint r dt c s cap) = refl
-bits-long (AbsoluteAttitude r dt c) = refl
-bits-long (Land r dt) = refl
-bits-long (AbsoluteRate r dt c) = refl
+bits_long : (k : Call) → length (bits_of (parts_of k).numbers) ≡ 20
+unfolding parts_of command_parts waypoint_parts bits_of
+bits_long Prime = refl
+bits_long (Attitude r dt c) = refl
+bits_long (Rate r dt c) = refl
+bits_long (Waypoint r dt c s cap) = refl
+bits_long (AbsoluteAttitude r dt c) = refl
+bits_long (Land r dt) = refl
+bits_long (AbsoluteRate r dt c) = refl
 
-and-left : (a b c d : Bool) → ((a && b) && c) && d ≡ a && (b && (c && d))
-and-left true true c d = refl
-and-left true false c d = refl
-and-left false b c d = refl
+and_left : (a b c d : Bool) → ((a && b) && c) && d ≡ a && (b && (c && d))
+and_left true true c d = refl
+and_left true false c d = refl
+and_left false b c d = refl
 
-module _ (p q : Parts) (k l : Call) (e : p ≡ partsOf k) (f : q ≡ partsOf l) where
-  pub keeps-fit : length (q .keeps) ≡ length (p .keeps)
-  keeps-fit = rw (e, f) (keeps-long l ∙ sym (keeps-long k))
+module _ (p q : Parts) (k l : Call) (e : p ≡ parts_of k) (f : q ≡ parts_of l) where
+  pub keeps_fit : length q.keeps ≡ length p.keeps
+  keeps_fit = rw (e, f) (keeps_long l ∙ sym (keeps_long k))
 
-  values-split : sameList (callValues k) (callValues l)
-      ≡ eqb (p .kind) (q .kind) && (eqb (p .regime) (q .regime) && (sameList (bitsOf (p .numbers)) (bitsOf (q .numbers)) && sameList (p .keeps) (q .keeps)))
-  unfolding callValues valuesOf sameList
-  values-split =
-      rw (e, f, same-append (bitsOf (partsOf k .numbers)) (bitsOf (partsOf l .numbers)) (partsOf k .keeps) (partsOf l .keeps) (bits-long l ∙ sym (bits-long k)))
+  values_split : same_list (call_values k) (call_values l)
+      ≡ eqb p.kind q.kind && (eqb p.regime q.regime && (same_list (bits_of p.numbers) (bits_of q.numbers) && same_list p.keeps q.keeps))
+  unfolding call_values values_of same_list
+  values_split =
+      rw (e, f, same_append (bits_of (parts_of k).numbers) (bits_of (parts_of l).numbers) (parts_of k).keeps (parts_of l).keeps (bits_long l ∙ sym (bits_long k)))
 
-  pub values-same : (a b : List ℕ) → a ≡ bitsOf (p .numbers) → b ≡ bitsOf (q .numbers) → (x y : Bool) → x ≡ sameList a b → y ≡ sameList (p .keeps) (q .keeps)
-      → ((eqb (p .kind) (q .kind) && eqb (p .regime) (q .regime)) && x) && y ≡ sameList (callValues k) (callValues l)
-  values-same a b g h x y u v = and-left (eqb (p .kind) (q .kind)) (eqb (p .regime) (q .regime)) x y ∙ rw (u, v, g, h) (sym values-split)
+  pub values_same : (a b : List ℕ) → a ≡ bits_of p.numbers → b ≡ bits_of q.numbers → (x y : Bool) → x ≡ same_list a b → y ≡ same_list p.keeps q.keeps
+      → ((eqb p.kind q.kind && eqb p.regime q.regime) && x) && y ≡ same_list (call_values k) (call_values l)
+  values_same a b g h x y u v = and_left (eqb p.kind q.kind) (eqb p.regime q.regime) x y ∙ rw (u, v, g, h) (sym values_split)

@@ -1,16 +1,13 @@
 -- What is wanted of an agreement, for every two byte strings. Statements only; proofs/LawsProof proves them.
-use mathlib.Core.Path.{_≡_}
-use mathlib.Core.List.{List}
-use Prim.Native.Nat.{ℕ}
-use lib.ListN.{take}
-use Rattle·laws.specs.declared.config.PlaneGuidanceConfig.{PlaneGuidanceConfig}
-use Rattle·guidance.specs.Plane.{fresh}
-use Rattle·claims.specs.Calls.{replies, marks, unmarked}
-use Rattle·replay.specs.Recording.{Recorded, ends, recorded, recording}
-use Rattle·compaction.specs.Compaction.{callsOf, compacted, bytesAfter}
-use Rattle·compaction.specs.declared.Compacted.the-variants as short
-use Rattle·agreement·specs.specs.Agreement.{agreement}
-use Rattle·agreement·specs.specs.declared.Agreement.the-variants as answer
+use Rattle.std.specs.Prelude.{◌≡◌, List, ℕ, take}
+use Rattle.laws.specs.declared.config.PlaneGuidanceConfig.{PlaneGuidanceConfig}
+use Rattle.guidance.specs.Plane.{fresh}
+use Rattle.claims.specs.Calls.{replies, marks, unmarked}
+use Rattle.replay.specs.Recording.{Recorded, ends, recorded, recording}
+use Rattle.compaction.specs.Compaction.{calls_of, compacted, bytes_after}
+use Rattle.compaction.specs.declared.Compacted.TheVariants as short
+use Rattle.agreement.specs.Agreement.{agreement}
+use Rattle.agreement.specs.declared.Agreement.TheVariants as answer
 
 abbrev pub Agree : List ℕ → List ℕ → Type 0
 Agree s t = agreement s t ≡ answer.Agree
@@ -22,25 +19,25 @@ Read s = (n : ℕ) × (compacted s (recording s) ≡ short.Length n)
 -- Two recordings that agree: one configuration, and the calls of each.
 pub record OneStory (s t : List ℕ) : Type 0 where
   pub config : PlaneGuidanceConfig
-  pub box-calls : List Recorded
-  pub display-calls : List Recorded
-  pub box-reads : recording s ≡ recorded config (record { calls = box-calls; ending = ends })
-  pub display-reads : recording t ≡ recorded config (record { calls = display-calls; ending = ends })
+  pub box_calls : List Recorded
+  pub display_calls : List Recorded
+  pub box_reads : recording s ≡ recorded config (record { calls = box_calls; ending = ends })
+  pub display_reads : recording t ≡ recorded config (record { calls = display_calls; ending = ends })
   -- the remaining calls are the same
   pub calls :
-      unmarked (marks (fresh config) (callsOf box-calls)) (callsOf box-calls)
-      ≡ unmarked (marks (fresh config) (callsOf display-calls)) (callsOf display-calls)
+      unmarked (marks (fresh config) (calls_of box_calls)) (calls_of box_calls)
+      ≡ unmarked (marks (fresh config) (calls_of display_calls)) (calls_of display_calls)
   -- "the remaining calls have equal setpoints in both replays": whole answers, in the replays of the recordings as they are
   pub answers :
-      unmarked (marks (fresh config) (callsOf box-calls)) (replies (fresh config) (callsOf box-calls))
-      ≡ unmarked (marks (fresh config) (callsOf display-calls)) (replies (fresh config) (callsOf display-calls))
+      unmarked (marks (fresh config) (calls_of box_calls)) (replies (fresh config) (calls_of box_calls))
+      ≡ unmarked (marks (fresh config) (calls_of display_calls)) (replies (fresh config) (calls_of display_calls))
 
 pub record Laws : Type 0 where
-  pub one-story : (s t : List ℕ) → Agree s t → OneStory s t
+  pub one_story : (s t : List ℕ) → Agree s t → OneStory s t
   -- recordings that agree are not refused, and among those that are not, agreement is an equivalence
-  pub both-read : (s t : List ℕ) → Agree s t → Read s × Read t
+  pub both_read : (s t : List ℕ) → Agree s t → Read s × Read t
   pub reflexive : (s : List ℕ) → Read s → Agree s s
   pub symmetric : (s t : List ℕ) → Agree s t → Agree t s
   pub transitive : (s t u : List ℕ) → Agree s t → Agree t u → Agree s u
   -- a recording agrees with its compacted self: the bytes that compaction leaves, up to the length that it gives
-  pub compacted-self : (s : List ℕ) (n : ℕ) → compacted s (recording s) ≡ short.Length n → Agree s (take n (bytesAfter s (recording s)))
+  pub compacted_self : (s : List ℕ) (n : ℕ) → compacted s (recording s) ≡ short.Length n → Agree s (take n (bytes_after s (recording s)))

@@ -1,4 +1,4 @@
--- Document 02, K13. `code` has the code's own steps.
+-- Document 02, K13. `Code` has the code's own steps.
 pub mod Agreement
 pub mod Laws
-pub mod code
+pub mod Code

@@ -3,25 +3,22 @@
 //
 // Each recording is read to its end first, as for its compaction; where one is refused, that is the answer. Then a cursor in each
 // goes from one remaining call to the next, for as long as the two calls are the same.
-use compaction::Decided;
-use compaction::decide;
-use compaction::judge;
+#![tactic(auto)]
+
+ghost use Rattle.std.specs.Prelude.{◌≡◌, ◌≤◌, length};
+ghost use Rattle.compaction.specs.Code.Steps.{decided};
+ghost use Rattle.agreement.specs.Agreement as spec;
+ghost use Rattle.agreement.specs.Code.Steps as step;
+ghost use Rattle.agreement.specs.Code.Steps.{Next};
+
+use compaction::{Decided, decide, judge};
 use config_numbers::bits_of;
 use fields::changed;
 use guidance::plane::PlaneGuidance;
 use laws::config::PlaneGuidanceConfig;
-use records::call::Call;
-use records::call::ReadCall;
-use records::call::read_call;
+use records::call::{Call, ReadCall, read_call};
 use records::call_writer;
 use records::call_writer::parts_of;
-ghost use mathlib.Core.Path.{_≡_};
-ghost use Prim.Native.Nat.{_≤_};
-ghost use lib.ListN.{length};
-ghost use Rattle·compaction.specs.code.Steps.{decided};
-ghost use Rattle·agreement·specs.specs.Agreement as spec;
-ghost use Rattle·agreement·specs.specs.code.Steps as step;
-ghost use Rattle·agreement·specs.specs.code.Steps.{Next};
 
 // Whose recording was refused.
 pub const BOX: u32 = 1;
@@ -30,6 +27,7 @@ pub const DISPLAY: u32 = 2;
 
 // They agree; or they part at the calls of these numbers, 0 in both for the configuration, and 0 where a recording has no call
 // left; or one of them is refused, as its compaction would be.
+#[derive(Clone, Copy)]
 pub enum Agreement {
     Agree,
     Part {
@@ -51,6 +49,7 @@ pub enum Agreement {
 const MOST_CALLS: u32 = 4096;
 
 // A place after a call: the guidance there, whether the last accepted guide or prime call was a fallback, and the call's number.
+#[derive(Clone, Copy)]
 struct Place {
     guidance: PlaneGuidance,
     at: usize,
@@ -59,6 +58,7 @@ struct Place {
 }
 
 // A remaining call, and the place after it, whose number is 0 where no call remains.
+#[derive(Clone, Copy)]
 struct Told {
     call: Call,
     place: Place,
@@ -67,15 +67,15 @@ struct Told {
 // ---- values, held equal as bits
 
 fn same_numbers(a: &[u32], b: &[u32]) -> bool
-    requires { ⌜ (length (now b) ≡ length (now a)) × (length (now a) ≤ 40) ⌝ }
-    ensures { λ r. ⌜ r ≡ spec.sameList (now (a .entry)) (now (b .entry)) ⌝ }
+    requires { (length b.now ≡ length a.now) × (length a.now ≤ 40) }
+    ensures { result ≡ spec.same_list a.now b.now }
 {
     changed(a, b) == 0
 }
 
 fn same_bytes(a: &[u8], b: &[u8]) -> bool
-    requires { ⌜ length (now b) ≡ length (now a) ⌝ }
-    ensures { λ r. ⌜ r ≡ spec.sameList (now (a .entry)) (now (b .entry)) ⌝ }
+    requires { length b.now ≡ length a.now }
+    ensures { result ≡ spec.same_list a.now b.now }
 {
     let mut i = 0;
     while i < a.len() {
@@ -88,7 +88,7 @@ fn same_bytes(a: &[u8], b: &[u8]) -> bool
 }
 
 fn same_config(c: PlaneGuidanceConfig, d: PlaneGuidanceConfig) -> bool
-    ensures { λ r. ⌜ r ≡ spec.sameList (spec.configValues c) (spec.configValues d) ⌝ }
+    ensures { result ≡ spec.same_list (spec.config_values c) (spec.config_values d) }
 {
     let a = bits_of(c);
     let b = bits_of(d);
@@ -96,7 +96,7 @@ fn same_config(c: PlaneGuidanceConfig, d: PlaneGuidanceConfig) -> bool
 }
 
 fn same_call(c: Call, d: Call) -> bool
-    ensures { λ r. ⌜ r ≡ spec.sameList (spec.callValues c) (spec.callValues d) ⌝ }
+    ensures { result ≡ spec.same_list (spec.call_values c) (spec.call_values d) }
 {
     let p = parts_of(c);
     let q = parts_of(d);
@@ -115,7 +115,7 @@ fn same_call(c: Call, d: Call) -> bool
 
 // The next call that is not struck, after another.
 fn next_call(s: &[u8], last: Told) -> Told
-    ensures { λ r. ⌜ Next (now (s .entry)) (last .place) r ⌝ }
+    ensures { Next s.now last.place result }
 {
     let mut g = last.place.guidance;
     let mut at = last.place.at;
@@ -185,7 +185,7 @@ fn next_call(s: &[u8], last: Told) -> Told
 
 // Goes on from two places for as long as the calls are the same.
 fn part_calls(s: &[u8], a: Place, t: &[u8], b: Place) -> Agreement
-    ensures { λ r. ⌜ r ≡ spec.partCalls (step.told (now (s .entry)) a) (step.told (now (t .entry)) b) ⌝ }
+    ensures { result ≡ spec.part_calls (step.told s.now a) (step.told t.now b) }
 {
     let mut x = next_call(
         s,
@@ -229,7 +229,7 @@ fn part_calls(s: &[u8], a: Place, t: &[u8], b: Place) -> Agreement
 }
 
 fn start(g: PlaneGuidance, at: usize) -> Place
-    ensures { λ r. ⌜ r ≡ step.start g at ⌝ }
+    ensures { result ≡ step.start g at }
 {
     Place {
         guidance: g,
@@ -248,7 +248,7 @@ fn part(
     h: PlaneGuidance,
     place: usize,
 ) -> Agreement
-    ensures { λ r. ⌜ r ≡ step.parted (now (s .entry)) g at (now (t .entry)) h place ⌝ }
+    ensures { result ≡ step.parted s.now g at t.now h place }
 {
     let c = g.config;
     let d = h.config;
@@ -265,7 +265,7 @@ fn part(
 
 // The box's recording can be read.
 fn with_display(s: &[u8], g: PlaneGuidance, at: usize, t: &[u8]) -> Agreement
-    ensures { λ r. ⌜ r ≡ step.withDisplay (now (s .entry)) g at (now (t .entry)) (decided (now (t .entry))) ⌝ }
+    ensures { result ≡ step.with_display s.now g at t.now (decided t.now) }
 {
     let d = decide(t);
     match d {
@@ -284,7 +284,7 @@ fn with_display(s: &[u8], g: PlaneGuidance, at: usize, t: &[u8]) -> Agreement
 
 // Holds the box's recording and the display's together.
 pub fn agree(s: &[u8], t: &[u8]) -> Agreement
-    ensures { λ r. ⌜ r ≡ spec.agreement (now (s .entry)) (now (t .entry)) ⌝ }
+    ensures { result ≡ spec.agreement s.now t.now }
 {
     let d = decide(s);
     match d {

@@ -1,10 +1,10 @@
 -- Every constant has the value that document 01 gives it: the check computes it.
-use mathlib.Core.Path.{_≡_}
+use mathlib.Core.Path.{◌≡◌}
 use mathlib.Core.Bool.{true}
-use lib.Ieee.{ofBits, toBits, div, round}
-use Rattle·arithmetic·specs.specs.Table.{allHold}
-use Rattle·arithmetic·specs.specs.Values.{table}
+use lib.Ieee.{of_bits, to_bits, div, round}
+use Rattle.arithmetic.specs.Table.{all_hold}
+use Rattle.arithmetic.specs.Values.{table}
 
-pub values : allHold table ≡ true
-unfolding ofBits toBits div round allHold
+pub values : all_hold table ≡ true
+unfolding of_bits to_bits div round all_hold
 values = cc

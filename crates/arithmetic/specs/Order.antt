@@ -1,15 +1,16 @@
 -- Least, greatest, clamp, the size and the finite test of document 01, and a choice by a Bool. Definitions only.
-use mathlib.Core.Bool.{Bool, true, false, cond}
-use lib.Ieee as Ieee
-use lib.Ieee.{Float, nan, inf, fin, isNan}
+use Rattle.std.specs.Prelude.{Bool, true, false, cond, Float}
+use Rattle.std.specs.Float.Ieee as Ieee
+use Rattle.std.specs.Float.{nan, inf, fin}
+use Rattle.std.specs.Float.Ieee.{is_nan}
 
 -- Least: the other if one is NaN; a if a < b; else b.
 unfoldable pub least : Float → Float → Float
-least a b = cond (isNan a) b (cond (isNan b) a (cond (Ieee.lt a b) a b))
+least a b = cond (is_nan a) b (cond (is_nan b) a (cond (Ieee.lt a b) a b))
 
 -- Greatest: likewise with >.
 unfoldable pub greatest : Float → Float → Float
-greatest a b = cond (isNan a) b (cond (isNan b) a (cond (Ieee.lt b a) a b))
+greatest a b = cond (is_nan a) b (cond (is_nan b) a (cond (Ieee.lt b a) a b))
 
 -- Clamp: low if v < low, high if v > high, else v; NaN passes.
 unfoldable pub clamp : Float → Float → Float → Float

@@ -1,10 +1,11 @@
 -- Sine, cosine, arctangent, arcsine and the arctangent of y, x of document 01. Definitions only.
-use mathlib.Core.Bool.{Bool, true, false, cond, _||_}
-use lib.Ieee as Ieee
-use lib.Ieee.{Float, nan, binary32, isNan, neg}
-use Rattle·arithmetic·specs.specs.Constants.{f32, _+ᶠ_, _-ᶠ_, _·ᶠ_, _/ᶠ_, _%ᶠ_, n0, n1, n2, pi, fracPi4, fracPi2, tau}
-use Rattle·arithmetic·specs.specs.Order.{finite, size, negative}
-use Rattle·arithmetic·specs.specs.Root.{rootOf}
+use Rattle.std.specs.Prelude.{cond, ◌||◌, Float}
+use Rattle.std.specs.Float.Ieee as Ieee
+use Rattle.std.specs.Float.{nan, binary32}
+use Rattle.std.specs.Float.Ieee.{is_nan, neg}
+use Rattle.arithmetic.specs.Constants.{f32, ◌+ᶠ◌, ◌-ᶠ◌, ◌·ᶠ◌, ◌/ᶠ◌, ◌%ᶠ◌, n0, n1, n2, pi, frac_pi4, frac_pi2, tau}
+use Rattle.arithmetic.specs.Order.{finite, size, negative}
+use Rattle.arithmetic.specs.Root.{root_of}
 
 -- ---- the coefficients
 
@@ -55,8 +56,8 @@ abbrev pub fifteenth : Float
 fifteenth = n1 /ᶠ f32 0x41700000  -- 15
 
 -- the tangent of an eighth of a turn's half, where the series gives way
-abbrev pub seriesEnd : Float
-seriesEnd = f32 0x3ed413cd  -- 0.41421356
+abbrev pub series_end : Float
+series_end = f32 0x3ed413cd  -- 0.41421356
 
 -- ---- sine and cosine
 
@@ -71,16 +72,16 @@ unfoldable pub folded : Float → Float
 folded t = cond (Ieee.lt pi t) (tau -ᶠ t) t
 
 -- With z = t·t, up to FRAC_PI_4: 1 - z/2·(1 - z/12·(1 - z/30·(1 - z/56))); above: sine(FRAC_PI_2 - t).
-unfoldable pub cosineOfFolded : Float → Float
-cosineOfFolded t =
+unfoldable pub cosine_of_folded : Float → Float
+cosine_of_folded t =
     let z = t ·ᶠ t in
-    cond (Ieee.le t fracPi4)
+    cond (Ieee.le t frac_pi4)
     (n1 -ᶠ z /ᶠ n2 ·ᶠ (n1 -ᶠ z /ᶠ n12 ·ᶠ (n1 -ᶠ z /ᶠ n30 ·ᶠ (n1 -ᶠ z /ᶠ n56))))
-    (sine (fracPi2 -ᶠ t))
+    (sine (frac_pi2 -ᶠ t))
 
 -- Cosine: NaN if r is not finite; t is the size of r % TAU.
 unfoldable pub cosine : Float → Float
-cosine r = cond (finite r) (cosineOfFolded (folded (size (r %ᶠ tau)))) nan
+cosine r = cond (finite r) (cosine_of_folded (folded (size (r %ᶠ tau)))) nan
 
 -- ---- arctangent
 
@@ -92,30 +93,30 @@ series w =
 
 -- Part: series(u) up to 0.41421356, else FRAC_PI_4 + series((u - 1)/(u + 1)).
 unfoldable pub part : Float → Float
-part u = cond (Ieee.le u seriesEnd) (series u) (fracPi4 +ᶠ series ((u -ᶠ n1) /ᶠ (u +ᶠ n1)))
+part u = cond (Ieee.le u series_end) (series u) (frac_pi4 +ᶠ series ((u -ᶠ n1) /ᶠ (u +ᶠ n1)))
 
 -- of a size u: above 1, FRAC_PI_2 - part(1/u), else part(u)
-unfoldable pub arctangentOfSize : Float → Float
-arctangentOfSize u = cond (Ieee.lt n1 u) (fracPi2 -ᶠ part (n1 /ᶠ u)) (part u)
+unfoldable pub arctangent_of_size : Float → Float
+arctangent_of_size u = cond (Ieee.lt n1 u) (frac_pi2 -ᶠ part (n1 /ᶠ u)) (part u)
 
 -- Arctangent: NaN and zeros as they are; negated for v < 0.
 unfoldable pub arctangent : Float → Float
 arctangent v =
-    cond (isNan v || Ieee.eq v n0) v
-    (cond (Ieee.lt v n0) (neg (arctangentOfSize (size v))) (arctangentOfSize (size v)))
+    cond (is_nan v || Ieee.eq v n0) v
+    (cond (Ieee.lt v n0) (neg (arctangent_of_size (size v))) (arctangent_of_size (size v)))
 
 -- Arcsine: arctangent(v / root(1 - v·v)).
 unfoldable pub arcsine : Float → Float
-arcsine v = arctangent (v /ᶠ rootOf binary32 (n1 -ᶠ v ·ᶠ v))
+arcsine v = arctangent (v /ᶠ root_of binary32 (n1 -ᶠ v ·ᶠ v))
 
 -- x zero: FRAC_PI_2 with y's sign, or y if y is zero
-unfoldable pub quarterTurn : Float → Float
-quarterTurn y = cond (Ieee.eq y n0) y (cond (negative y) (neg fracPi2) fracPi2)
+unfoldable pub quarter_turn : Float → Float
+quarter_turn y = cond (Ieee.eq y n0) y (cond (negative y) (neg frac_pi2) frac_pi2)
 
 -- Arctangent of y, x: NaN if either is; x > 0: arctangent(y/x); x < 0: that plus PI, or minus PI when y's sign bit stands.
 unfoldable pub arctangent2 : Float → Float → Float
 arctangent2 y x =
-    cond (isNan y || isNan x) nan
+    cond (is_nan y || is_nan x) nan
     (cond (Ieee.lt n0 x) (arctangent (y /ᶠ x))
     (cond (Ieee.lt x n0) (cond (negative y) (arctangent (y /ᶠ x) -ᶠ pi) (arctangent (y /ᶠ x) +ᶠ pi))
-    (quarterTurn y)))
+    (quarter_turn y)))

@@ -1,14 +1,13 @@
 -- What the constants' bits stand for: "a decimal constant is its nearest f32, 1/3 and its like are one division. PI is hexadecimal
 -- 40490FDB; FRAC_PI_4, FRAC_PI_2 and TAU are its exact quarter, half and double." Definitions only.
-use Prim.Native.Nat.{ℕ, _*_}
-use mathlib.Core.Bool.{false}
-use mathlib.Core.List.{List, [], _∷_}
-use lib.Ieee.{Float, binary32, round}
-use Rattle·arithmetic·specs.specs.Table.{Case, _is_, bits}
-use Rattle·arithmetic·specs.specs.Constants.{_/ᶠ_, n0, n1, n2, pi, fracPi4, fracPi2, tau}
-use Rattle·arithmetic·specs.specs.Root.{inUnits}
-use Rattle·arithmetic·specs.specs.Trigonometry.{n6, n20, n42, n72, n110, n12, n30, n56, third, fifth, seventh, ninth, eleventh, thirteenth, fifteenth}
-use Rattle·arithmetic·specs.specs.Trigonometry.{seriesEnd}
+use Rattle.std.specs.Prelude.{ℕ, ◌*◌, false, List, [], ◌∷◌, Float}
+use Rattle.std.specs.Float.{binary32}
+use Rattle.std.specs.Float.Ieee.{round}
+use Rattle.arithmetic.specs.Table.{Case, ◌is◌, bits}
+use Rattle.arithmetic.specs.Constants.{◌/ᶠ◌, n0, n1, n2, pi, frac_pi4, frac_pi2, tau}
+use Rattle.arithmetic.specs.Root.{in_units}
+use Rattle.arithmetic.specs.Trigonometry.{n6, n20, n42, n72, n110, n12, n30, n56, third, fifth, seventh, ninth, eleventh, thirteenth, fifteenth}
+use Rattle.arithmetic.specs.Trigonometry.{series_end}
 
 -- the f32 nearest to n / d, ties to even: a decimal is a fraction over a power of ten
 abbrev pub nearest : ℕ → ℕ → Float
@@ -25,9 +24,9 @@ table =
     (bits n2 is bits (nearest 2 1)) ∷
     (bits pi is 0x40490fdb) ∷
     -- exactly: as whole numbers of binary32's smallest value
-    (4 * inUnits fracPi4 is inUnits pi) ∷
-    (2 * inUnits fracPi2 is inUnits pi) ∷
-    (inUnits tau is 2 * inUnits pi) ∷
+    (4 * in_units frac_pi4 is in_units pi) ∷
+    (2 * in_units frac_pi2 is in_units pi) ∷
+    (in_units tau is 2 * in_units pi) ∷
     -- sine and cosine
     (bits n6 is bits (nearest 6 1)) ∷
     (bits n20 is bits (nearest 20 1)) ∷
@@ -45,5 +44,5 @@ table =
     (bits eleventh is bits (divided 1 11)) ∷
     (bits thirteenth is bits (divided 1 13)) ∷
     (bits fifteenth is bits (divided 1 15)) ∷
-    (bits seriesEnd is bits (nearest 41421356 100000000)) ∷
+    (bits series_end is bits (nearest 41421356 100000000)) ∷
     []

@@ -1,13 +1,12 @@
 // Least, greatest, clamp, the size and the finite test, and a choice by a Bool.
-ghost use mathlib.Core.Path.{_≡_};
-ghost use mathlib.Core.Bool.{false};
-ghost use lib.Ieee as Ieee;
-ghost use lib.Ieee.{isNan};
-ghost use Rattle·arithmetic·specs.specs.Order as spec;
+ghost use Rattle.std.specs.Prelude.{◌≡◌, false};
+ghost use Rattle.std.specs.Float.Ieee as Ieee;
+ghost use Rattle.std.specs.Float.Ieee.{is_nan};
+ghost use Rattle.arithmetic.specs.Order as spec;
 
 // A NaN on the left is not below b, so b is given without a test of its own.
 pub fn least(a: f32, b: f32) -> f32
-    ensures { λ r. ⌜ r ≡ spec.least a b ⌝ }
+    ensures { result ≡ spec.least a b }
 {
     if b != b {
         return a;
@@ -16,7 +15,7 @@ pub fn least(a: f32, b: f32) -> f32
 }
 
 pub fn greatest(a: f32, b: f32) -> f32
-    ensures { λ r. ⌜ r ≡ spec.greatest a b ⌝ }
+    ensures { result ≡ spec.greatest a b }
 {
     if b != b {
         return a;
@@ -25,7 +24,7 @@ pub fn greatest(a: f32, b: f32) -> f32
 }
 
 pub fn clamp(v: f32, low: f32, high: f32) -> f32
-    ensures { λ r. ⌜ r ≡ spec.clamp v low high ⌝ }
+    ensures { result ≡ spec.clamp v low high }
 {
     if v < low {
         return low;
@@ -35,28 +34,28 @@ pub fn clamp(v: f32, low: f32, high: f32) -> f32
 
 // Clamp where the bounds are not crossed: the lesser of two, then the greater of two.
 pub fn clamp_ordered(v: f32, low: f32, high: f32) -> f32
-    requires { ⌜ Ieee.lt high low ≡ false ⌝ }
-    ensures { λ r. ⌜ r ≡ spec.clamp v low high ⌝ }
+    requires { Ieee.lt high low ≡ false }
+    ensures { result ≡ spec.clamp v low high }
 {
     let below = if v > high { high } else { v };
     if below < low { low } else { below }
 }
 
 pub fn is_finite(x: f32) -> bool
-    ensures { λ r. ⌜ r ≡ spec.finite x ⌝ }
+    ensures { result ≡ spec.finite x }
 {
     (x < 1.0 / 0.0) & (x > -(1.0 / 0.0))
 }
 
 pub fn is_nan(x: f32) -> bool
-    ensures { λ r. ⌜ r ≡ isNan x ⌝ }
+    ensures { result ≡ is_nan x }
 {
     x != x
 }
 
 // The absolute value, by its bits: the sign bit, 2^31, is cleared, of a zero too.
 pub fn size(v: f32) -> f32
-    ensures { λ r. ⌜ r ≡ spec.size v ⌝ }
+    ensures { result ≡ spec.size v }
 {
     if v != v {
         return v;
@@ -66,7 +65,7 @@ pub fn size(v: f32) -> f32
 
 // Whether the sign bit, 2^31, stands; a NaN has none.
 pub fn is_negative(v: f32) -> bool
-    ensures { λ r. ⌜ r ≡ spec.negative v ⌝ }
+    ensures { result ≡ spec.negative v }
 {
     if v != v {
         return false;
@@ -75,7 +74,7 @@ pub fn is_negative(v: f32) -> bool
 }
 
 pub fn choose(b: bool, x: f32, y: f32) -> f32
-    ensures { λ r. ⌜ r ≡ spec.choose b x y ⌝ }
+    ensures { result ≡ spec.choose b x y }
 {
     if b { x } else { y }
 }

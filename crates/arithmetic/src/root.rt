@@ -4,18 +4,17 @@
 //
 // The number under the root is m * 2^g, in squares of 2^-150; m is a significand of 24 digits. Both parts go as one number
 // c = (g - 26) * 2^23 + m % 2^23, which for a normal f32 is its pattern plus 124 * 2^23.
-ghost use mathlib.Core.Path.{_≡_};
-ghost use Prim.Native.Nat.{ℕ, _+_, _-_, _*_, _/_, _%_, _^_, _<_, _≤_};
-ghost use lib.Dec.{T};
-ghost use lib.Ieee.{binary32, toBits};
-ghost use Rattle·arithmetic·specs.specs.Root.{nearestRoot, IsRoot};
-ghost use Rattle·arithmetic·specs.specs.code.Guess.{Beside, under, pieces};
+ghost use Rattle.std.specs.Prelude.{◌≡◌, ℕ, ◌+◌, ◌-◌, ◌*◌, ◌/◌, ◌%◌, ◌^◌, ◌<◌, ◌≤◌, T};
+ghost use Rattle.std.specs.Float.{binary32};
+ghost use Rattle.std.specs.Float.Ieee.{to_bits};
+ghost use Rattle.arithmetic.specs.Root.{nearest_root, IsRoot};
+ghost use Rattle.arithmetic.specs.Code.Guess.{Beside, under, pieces};
 
 // bump * 2^51 + base * 2^21 + slope: with u from 0 to 1 the way through stretch i, the root in sixteenths is near
 // base + slope * u + bump * u * (1 - u). Stretches 64 to 127 are those of odd exponents. tools/root_table makes these numbers.
 fn shape(i: u64) -> u64
-    requires { ⌜ i < 128 ⌝ }
-    ensures { λ r. ⌜ T (pieces i r 32) ⌝ }
+    requires { i < 128 }
+    ensures { T (pieces i result 32) }
 {
     match i {
         0 => 12894203798927870507,
@@ -152,7 +151,7 @@ fn shape(i: u64) -> u64
 // A number beside the root of m * 2^(24 - g % 2). The last digit of g and the first six of m after the leading one name the
 // stretch, the 17 others the way through it.
 fn guess(c: u64) -> u64
-    ensures { λ v. ⌜ Beside (under c) v ⌝ }
+    ensures { Beside (under c) result }
 {
     let e = shape(c / 0x2_0000 % 128);
     let t: u64 = c % 0x2_0000;
@@ -164,15 +163,15 @@ fn guess(c: u64) -> u64
 // m with 24 zeros after it, or with 23, so that what is left of m * 2^g is an even power of two. (A shift by 24 - g % 2, or a
 // choice of the two, is compiled to one that waits for the call before this one.)
 fn widened(c: u64) -> u64
-    ensures { λ r. ⌜ r ≡ under c ⌝ }
+    ensures { result ≡ under c }
 {
     (c % 0x80_0000 + 0x80_0000) * (0x100_0000 - c / 0x80_0000 % 2 * 0x80_0000)
 }
 
 // The root of m * 2^g: its significand is the whole number nearest to the root of m * 2^(24 - g % 2). g is from 128 to 404.
 fn of_parts(c: u64) -> f32
-    requires { ⌜ (0x3300_0000 ≤ c) × (c < 0xbd80_0000) ⌝ }
-    ensures { λ r. ⌜ r ≡ nearestRoot binary32 ((c % 0x80_0000 + 0x80_0000) * 2 ^ (c / 0x80_0000 + 26)) ⌝ }
+    requires { (0x3300_0000 ≤ c) × (c < 0xbd80_0000) }
+    ensures { result ≡ nearest_root binary32 ((c % 0x80_0000 + 0x80_0000) * 2 ^ (c / 0x80_0000 + 26)) }
 {
     let v: u64 = guess(c);
     let m = widened(c);
@@ -183,7 +182,7 @@ fn of_parts(c: u64) -> f32
 // has none, and subnormals are moved up to 24 digits. One place calls `of_parts`, so that a root is one call, and the compiler can
 // take that of one number once. 0x3e00_0000 is 124 * 2^23, 0x7f80_0000 the infinity's pattern, 0x8000_0000 that of -0.
 pub fn root(x: f32) -> f32
-    ensures { λ r. ⌜ IsRoot x r ⌝ }
+    ensures { IsRoot x result }
 {
     if x != x {
         return x;

@@ -1,16 +1,14 @@
 // The stand-ins for the mathematics library: series with a fixed order of operations, so that every build rounds alike.
-use crate::order::is_finite;
-use crate::order::is_negative;
-use crate::order::size;
+ghost use Rattle.std.specs.Prelude.{◌≡◌, true, ◌≤◌, ◌<◌};
+ghost use Rattle.std.specs.Float.Ieee as Ieee;
+ghost use Rattle.std.specs.Float.{binary32};
+ghost use Rattle.std.specs.Float.Ieee.{of_bits};
+ghost use Rattle.arithmetic.specs.Constants.{tau};
+ghost use Rattle.arithmetic.specs.Order as order;
+ghost use Rattle.arithmetic.specs.Trigonometry as spec;
+
+use crate::order::{is_finite, is_negative, size};
 use crate::root::root;
-ghost use mathlib.Core.Path.{_≡_};
-ghost use lib.Ieee as Ieee;
-ghost use lib.Ieee.{binary32, ofBits};
-ghost use mathlib.Core.Bool.{true};
-ghost use Prim.Native.Nat.{_≤_, _<_};
-ghost use Rattle·arithmetic·specs.specs.Constants.{tau};
-ghost use Rattle·arithmetic·specs.specs.Order as order;
-ghost use Rattle·arithmetic·specs.specs.Trigonometry as spec;
 
 pub const PI: f32 = 3.1415927;
 
@@ -23,7 +21,7 @@ pub const TAU: f32 = 6.2831855;
 // Sine, z = a·a: a·(1 - z/6·(1 - z/20·(1 - z/42·(1 - z/72·(1 - z/110))))). The innermost quotient stands first, since all others
 // wait for it and divisions are done one after the other.
 pub fn sine(a: f32) -> f32
-    ensures { λ r. ⌜ r ≡ spec.sine a ⌝ }
+    ensures { result ≡ spec.sine a }
 {
     let z = a * a;
     let s110 = 1.0 - z / 110.0;
@@ -37,8 +35,8 @@ pub fn sine(a: f32) -> f32
 // 2097152) both are whole numbers, and TAU is 13176795. The `%` of f32 would be a call of the C library's fmodf. 0x80_0000 is
 // 2^23: above the 23 stored digits of a significand.
 fn remainder(b: u32) -> f32
-    requires { ⌜ (0x4080_0000 ≤ b) × (b < 0x7f80_0000) ⌝ }
-    ensures { λ t. ⌜ t ≡ Ieee.rem binary32 (ofBits binary32 b) tau ⌝ }
+    requires { (0x4080_0000 ≤ b) × (b < 0x7f80_0000) }
+    ensures { result ≡ Ieee.rem binary32 (of_bits binary32 b) tau }
 {
     let mut x: u32 = (b % 0x80_0000 + 0x80_0000) % 13176795;
     let mut n: u32 = b / 0x80_0000 - 129;
@@ -51,8 +49,8 @@ fn remainder(b: u32) -> f32
 
 // The size of the remainder by TAU. Below TAU it is the number's own.
 fn turned(r: f32) -> f32
-    requires { ⌜ order.finite r ≡ true ⌝ }
-    ensures { λ t. ⌜ t ≡ order.size (Ieee.rem binary32 r tau) ⌝ }
+    requires { order.finite r ≡ true }
+    ensures { result ≡ order.size (Ieee.rem binary32 r tau) }
 {
     let u = size(r);
     if u < TAU {
@@ -64,14 +62,14 @@ fn turned(r: f32) -> f32
 
 // Above PI, t becomes TAU - t.
 fn folded(t: f32) -> f32
-    ensures { λ r. ⌜ r ≡ spec.folded t ⌝ }
+    ensures { result ≡ spec.folded t }
 {
     if t > PI { TAU - t } else { t }
 }
 
 // With z = t·t, up to FRAC_PI_4: 1 - z/2·(1 - z/12·(1 - z/30·(1 - z/56))); above: sine(FRAC_PI_2 - t).
 fn cosine_of_folded(t: f32) -> f32
-    ensures { λ r. ⌜ r ≡ spec.cosineOfFolded t ⌝ }
+    ensures { result ≡ spec.cosine_of_folded t }
 {
     let z = t * t;
     if t <= FRAC_PI_4 {
@@ -86,7 +84,7 @@ fn cosine_of_folded(t: f32) -> f32
 
 // Cosine of r: NaN if r is not finite; t is the size of r % TAU.
 pub fn cosine(r: f32) -> f32
-    ensures { λ c. ⌜ c ≡ spec.cosine r ⌝ }
+    ensures { result ≡ spec.cosine r }
 {
     if is_finite(r) {
         cosine_of_folded(folded(turned(r)))
@@ -97,27 +95,19 @@ pub fn cosine(r: f32) -> f32
 
 // Series(w), z = w·w: w·(1 - z·(1/3 - z·(1/5 - z·(1/7 - z·(1/9 - z·(1/11 - z·(1/13 - z·(1/15)))))))).
 fn series(w: f32) -> f32
-    ensures { λ r. ⌜ r ≡ spec.series w ⌝ }
+    ensures { result ≡ spec.series w }
 {
     let z = w * w;
-    w
-        * (1.0
-            - z
-                * (1.0 / 3.0
-                    - z
-                        * (1.0 / 5.0
-                            - z
-                                * (1.0 / 7.0
-                                    - z
-                                        * (1.0 / 9.0
-                                            - z
-                                                * (1.0 / 11.0
-                                                    - z * (1.0 / 13.0 - z * (1.0 / 15.0))))))))
+    w * (1.0
+        - z * (1.0 / 3.0
+            - z * (1.0 / 5.0
+                - z * (1.0 / 7.0
+                    - z * (1.0 / 9.0 - z * (1.0 / 11.0 - z * (1.0 / 13.0 - z * (1.0 / 15.0))))))))
 }
 
 // Part(u): series(u) up to 0.41421356, else FRAC_PI_4 + series((u - 1)/(u + 1)).
 fn part(u: f32) -> f32
-    ensures { λ r. ⌜ r ≡ spec.part u ⌝ }
+    ensures { result ≡ spec.part u }
 {
     if u <= 0.41421356 {
         series(u)
@@ -128,7 +118,7 @@ fn part(u: f32) -> f32
 
 // Of a size u: above 1, FRAC_PI_2 - part(1/u), else part(u).
 pub fn arctangent_of_size(u: f32) -> f32
-    ensures { λ r. ⌜ r ≡ spec.arctangentOfSize u ⌝ }
+    ensures { result ≡ spec.arctangent_of_size u }
 {
     if u > 1.0 {
         FRAC_PI_2 - part(1.0 / u)
@@ -141,7 +131,7 @@ pub fn arctangent_of_size(u: f32) -> f32
 // on a zero. The arctangent of a size has no sign: `%` changes nothing, and shows the compiler that nothing is carried. NaN is set
 // apart, since its bits are not defined.
 pub fn arctangent(v: f32) -> f32
-    ensures { λ r. ⌜ r ≡ spec.arctangent v ⌝ }
+    ensures { result ≡ spec.arctangent v }
 {
     if v != v {
         return v;
@@ -153,13 +143,13 @@ pub fn arctangent(v: f32) -> f32
 }
 
 pub fn arcsine(v: f32) -> f32
-    ensures { λ r. ⌜ r ≡ spec.arcsine v ⌝ }
+    ensures { result ≡ spec.arcsine v }
 {
     arctangent(v / root(1.0 - v * v))
 }
 
 fn quarter_turn(y: f32) -> f32
-    ensures { λ r. ⌜ r ≡ spec.quarterTurn y ⌝ }
+    ensures { result ≡ spec.quarter_turn y }
 {
     if y == 0.0 {
         return y;
@@ -172,7 +162,7 @@ fn quarter_turn(y: f32) -> f32
 }
 
 pub fn arctangent2(y: f32, x: f32) -> f32
-    ensures { λ r. ⌜ r ≡ spec.arctangent2 y x ⌝ }
+    ensures { result ≡ spec.arctangent2 y x }
 {
     if (y != y) | (x != x) {
         return 0.0 / 0.0;

@@ -1,40 +1,42 @@
 // Five functions of `arithmetic` for C and Rust: what tools/bench/arithmetic times and tools/standins compares.
-ghost use mathlib.Core.Path.{_≡_};
-ghost use lib.Ieee.{binary32};
-ghost use Rattle·arithmetic.specs.Root.{rootOf};
-ghost use Rattle·arithmetic.specs.Trigonometry as spec;
+#![tactic(auto)]
 
-#[no_mangle]
+ghost use Rattle.std.specs.Prelude.{◌≡◌};
+ghost use Rattle.std.specs.Float.{binary32};
+ghost use Rattle.arithmetic.specs.Root.{root_of};
+ghost use Rattle.arithmetic.specs.Trigonometry as spec;
+
+#[unsafe(no_mangle)]
 pub extern "C" fn arithmetic_root(x: f32) -> f32
-    ensures { λ r. ⌜ r ≡ rootOf binary32 x ⌝ }
+    ensures { result ≡ root_of binary32 x }
 {
     arithmetic::root::root(x)
 }
 
-#[no_mangle]
+#[unsafe(no_mangle)]
 pub extern "C" fn arithmetic_sine(a: f32) -> f32
-    ensures { λ r. ⌜ r ≡ spec.sine a ⌝ }
+    ensures { result ≡ spec.sine a }
 {
     arithmetic::trigonometry::sine(a)
 }
 
-#[no_mangle]
+#[unsafe(no_mangle)]
 pub extern "C" fn arithmetic_cosine(r: f32) -> f32
-    ensures { λ c. ⌜ c ≡ spec.cosine r ⌝ }
+    ensures { result ≡ spec.cosine r }
 {
     arithmetic::trigonometry::cosine(r)
 }
 
-#[no_mangle]
+#[unsafe(no_mangle)]
 pub extern "C" fn arithmetic_arctangent(v: f32) -> f32
-    ensures { λ r. ⌜ r ≡ spec.arctangent v ⌝ }
+    ensures { result ≡ spec.arctangent v }
 {
     arithmetic::trigonometry::arctangent(v)
 }
 
-#[no_mangle]
+#[unsafe(no_mangle)]
 pub extern "C" fn arithmetic_arctangent2(y: f32, x: f32) -> f32
-    ensures { λ r. ⌜ r ≡ spec.arctangent2 y x ⌝ }
+    ensures { result ≡ spec.arctangent2 y x }
 {
     arithmetic::trigonometry::arctangent2(y, x)
 }

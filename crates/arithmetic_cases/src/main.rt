@@ -1,20 +1,18 @@
 // Runs the crate `arithmetic` on the rows of data/ and counts those that it answers as they say, bit for bit, every NaN alike.
 // tools/vectors/arithmetic.py makes the rows and says what is in one.
-use arithmetic::order;
-use arithmetic::root;
-use arithmetic::trigonometry;
-use arithmetic::vector;
-use arithmetic::vector::Normalised;
-use arithmetic::vector::Vec2;
-use case_rows::Count;
-use case_rows::bits;
-use case_rows::number_of;
-use case_rows::plus;
-use case_rows::print_count;
-use case_rows::word_of;
-ghost use Prim.Native.Nat.{_≤_};
+#![tactic(auto)]
+
+ghost use Rattle.std.specs.Prelude.{◌≤◌, IfOk};
+
+use arithmetic::vector::{Normalised, Vec2};
+use arithmetic::{order, root, trigonometry, vector};
+use case_rows::{Count, bits, number_of, plus, print_count, read_full, word_of};
+use std::io::Read;
+use std::rt::Files;
+use std::{fs, io};
 
 // A row's results: a number's bits or a truth, and the parts of a normalised vector after it.
+#[derive(Clone, Copy)]
 struct Answer {
     first: u32,
     x: u32,
@@ -22,6 +20,7 @@ struct Answer {
 }
 
 // Whether there was a row, and 1 if its answer was right.
+#[derive(Clone, Copy)]
 struct Tried {
     found: bool,
     right: u32,
@@ -87,7 +86,7 @@ fn call(function: u32, a: f32, b: f32, c: f32, d: f32) -> Answer {
 
 // Four bytes from a place, low byte first.
 fn word(row: &[u8; 32], at: usize) -> u32
-    requires { ⌜ at ≤ 28 ⌝ }
+    requires { at ≤ 28 }
 {
     word_of(row[at], row[at + 1], row[at + 2], row[at + 3])
 }
@@ -102,69 +101,70 @@ fn is_right(row: &[u8; 32]) -> bool {
 }
 
 // Reads a row and tries it. A row that is cut short is not right.
-fn try_row(file: i32) -> Tried
-    ensures { λ r. ⌜ r .right ≤ 1 ⌝ }
+fn try_row<F: Read>(file: &mut F) -> io::Result<Tried>
+    ensures { IfOk result (λ tried. tried.right ≤ 1) }
 {
     let mut row = [0u8; 32];
-    let n = io::read_full(file, &mut row);
+    let n = read_full(file, &mut row)?;
     if n == 32 {
         if is_right(&row) {
-            return Tried {
+            return Ok(Tried {
                 found: true,
                 right: 1,
-            };
+            });
         }
     }
-    Tried {
+    Ok(Tried {
         found: n > 0,
         right: 0,
-    }
+    })
 }
 
 // Tries the rows of a file, at most 100,000: a proved loop has to end.
-fn try_rows(file: i32) -> Count {
+fn try_rows<F: Read>(file: &mut F) -> io::Result<Count> {
     let mut rows: u32 = 0;
     let mut right: u32 = 0;
-    let mut tried = try_row(file);
+    let mut tried = try_row(file)?;
     while rows < 100000 && tried.found {
         rows += 1;
         right += tried.right;
-        tried = try_row(file);
+        tried = try_row(file)?;
     }
-    Count { rows, right }
+    Ok(Count { rows, right })
 }
 
 // Tries the rows of one file, prints the count under the file's name, and adds it to the count before.
-fn try_group(name: &[u8], before: Count) -> Count {
-    let file = os::open_read(name);
-    if file < 0 {
-        os::fail(name);
-        return before;
-    }
-    let count = try_rows(file);
-    libc::close(file);
-    print_count(name, count);
-    plus(before, count)
+fn try_group<R: Files + Print + Eprint>(rt: &R, name: &str, before: Count) -> io::Result<Count> {
+    let mut file = match fs::open(rt, name) {
+        Ok(file) => file,
+        Err(e) => {
+            eprintln!(rt; "{name}: {e}")?;
+            return Ok(before);
+        }
+    };
+    let count = try_rows(&mut file)?;
+    print_count(rt, name.as_bytes(), count)?;
+    Ok(plus(before, count))
 }
 
-fn main() {
+fn main(rt: HostRuntime) -> io::Result<()> {
     let mut total = Count { rows: 0, right: 0 };
-    total = try_group(b"document_01", total);
-    total = try_group(b"root_published", total);
-    total = try_group(b"least", total);
-    total = try_group(b"greatest", total);
-    total = try_group(b"clamp", total);
-    total = try_group(b"size", total);
-    total = try_group(b"finite", total);
-    total = try_group(b"root", total);
-    total = try_group(b"norm", total);
-    total = try_group(b"dot", total);
-    total = try_group(b"cross", total);
-    total = try_group(b"normalise", total);
-    total = try_group(b"sine", total);
-    total = try_group(b"cosine", total);
-    total = try_group(b"arctangent", total);
-    total = try_group(b"arcsine", total);
-    total = try_group(b"arctangent2", total);
-    print_count(b"total", total);
+    total = try_group(&rt, "document_01", total)?;
+    total = try_group(&rt, "root_published", total)?;
+    total = try_group(&rt, "least", total)?;
+    total = try_group(&rt, "greatest", total)?;
+    total = try_group(&rt, "clamp", total)?;
+    total = try_group(&rt, "size", total)?;
+    total = try_group(&rt, "finite", total)?;
+    total = try_group(&rt, "root", total)?;
+    total = try_group(&rt, "norm", total)?;
+    total = try_group(&rt, "dot", total)?;
+    total = try_group(&rt, "cross", total)?;
+    total = try_group(&rt, "normalise", total)?;
+    total = try_group(&rt, "sine", total)?;
+    total = try_group(&rt, "cosine", total)?;
+    total = try_group(&rt, "arctangent", total)?;
+    total = try_group(&rt, "arcsine", total)?;
+    total = try_group(&rt, "arctangent2", total)?;
+    print_count(&rt, b"total", total)
 }

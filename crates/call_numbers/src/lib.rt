@@ -1,23 +1,21 @@
 // A call as a host gives it: numbers and flags.
+#![tactic(auto)]
+
+ghost use Rattle.std.specs.Prelude.{◌≡◌};
+ghost use Rattle.call_numbers.specs.Call as spec;
+
 use arithmetic::vector::Vec2;
-use laws::types::AbsoluteAttitudeCommand;
-use laws::types::AbsoluteRateCommand;
-use laws::types::AttitudeCommand;
-use laws::types::FlightRegime;
-use laws::types::OptionF32;
-use laws::types::OptionVec2;
-use laws::types::RateCommand;
-use laws::types::Vec3;
-use laws::types::VehicleState;
-use laws::types::WaypointCommand;
+use laws::types::{
+    AbsoluteAttitudeCommand, AbsoluteRateCommand, AttitudeCommand, FlightRegime, OptionF32,
+    OptionVec2, RateCommand, Vec3, VehicleState, WaypointCommand,
+};
 use path::model::WaypointCall;
 use records::call::Call;
-ghost use mathlib.Core.Path.{_≡_};
-ghost use Rattle·call_numbers·specs.specs.Call as spec;
 
 // A call as numbers. kind: as in the record; regime: 0 copter, 1 plane; first to fourth: the command numbers in the order
 // `guide_capped` reads them; has_leg, has_airspeed, has_cap: flags, 0 or not 0. What the kind does not use is not read.
 #[repr(C)]
+#[derive(Clone, Copy)]
 pub struct CallNumbers {
     pub kind: u32,
     pub regime: u32,
@@ -43,7 +41,7 @@ pub struct CallNumbers {
 }
 
 pub fn regime_of(n: u32) -> FlightRegime
-    ensures { λ r. ⌜ r ≡ spec.regimeOf n ⌝ }
+    ensures { result ≡ spec.regime_of n }
 {
     if n == 0 {
         FlightRegime::Copter
@@ -53,7 +51,7 @@ pub fn regime_of(n: u32) -> FlightRegime
 }
 
 pub fn option_of(flag: u32, x: f32) -> OptionF32
-    ensures { λ r. ⌜ r ≡ spec.optionOf flag x ⌝ }
+    ensures { result ≡ spec.option_of flag x }
 {
     if flag == 0 {
         OptionF32::None
@@ -63,7 +61,7 @@ pub fn option_of(flag: u32, x: f32) -> OptionF32
 }
 
 fn leg_of(flag: u32, north: f32, east: f32) -> OptionVec2
-    ensures { λ r. ⌜ r ≡ spec.legOf flag north east ⌝ }
+    ensures { result ≡ spec.leg_of flag north east }
 {
     if flag == 0 {
         OptionVec2::None
@@ -74,7 +72,7 @@ fn leg_of(flag: u32, north: f32, east: f32) -> OptionVec2
 
 // A waypoint call, whatever the kind says.
 pub fn waypoint_call_of(k: CallNumbers) -> WaypointCall
-    ensures { λ r. ⌜ r ≡ spec.waypointCall k ⌝ }
+    ensures { result ≡ spec.waypoint_call k }
 {
     let regime = regime_of(k.regime);
     let velocity_mps = leg_of(k.has_leg, k.leg_north_mps, k.leg_east_mps);
@@ -105,7 +103,7 @@ pub fn waypoint_call_of(k: CallNumbers) -> WaypointCall
 }
 
 fn waypoint_of(k: CallNumbers) -> Call
-    ensures { λ r. ⌜ r ≡ spec.waypointOf k ⌝ }
+    ensures { result ≡ spec.waypoint_of k }
 {
     let w = waypoint_call_of(k);
     let regime = w.regime;
@@ -123,7 +121,7 @@ fn waypoint_of(k: CallNumbers) -> Call
 
 // The call of a kind from 0 to 6.
 pub fn call_of(k: CallNumbers) -> Call
-    ensures { λ r. ⌜ r ≡ spec.fromNumbers k ⌝ }
+    ensures { result ≡ spec.from_numbers k }
 {
     let regime = regime_of(k.regime);
     let kind = k.kind;

@@ -1,17 +1,16 @@
 // A record's call, carried out on a guidance.
-use guidance::plane::Answer;
-use guidance::plane::PlaneGuidance;
-use laws::types::ControlInput;
-use laws::types::FlightRegime;
-use laws::types::OptionF32;
-use laws::types::Vec3;
-use laws::types::VehicleState;
+#![tactic(auto)]
+
+ghost use Rattle.std.specs.Prelude.{◌≡◌};
+ghost use Rattle.claims.specs.Calls as spec;
+ghost use Rattle.calls.specs.Calls as is;
+
+use guidance::plane::{Answer, PlaneGuidance};
+use laws::types::{ControlInput, FlightRegime, OptionF32, Vec3, VehicleState};
 use records::call::Call;
-ghost use mathlib.Core.Path.{_≡_};
-ghost use Rattle·claims.specs.Calls as spec;
-ghost use Rattle·calls·specs.specs.Calls as is;
 
 // What `guide_capped` takes besides the guidance.
+#[derive(Clone, Copy)]
 pub struct GuideCall {
     pub dt: f32,
     pub regime: FlightRegime,
@@ -20,16 +19,19 @@ pub struct GuideCall {
     pub cap: OptionF32,
 }
 
+#[derive(Clone, Copy)]
 pub enum Wanted {
     Prime,
     Guide(GuideCall),
 }
 
+#[derive(Clone, Copy)]
 pub enum Reply {
     Answered(Answer),
     Primed,
 }
 
+#[derive(Clone, Copy)]
 pub struct Performed {
     pub guidance: PlaneGuidance,
     pub reply: Reply,
@@ -37,7 +39,7 @@ pub struct Performed {
 
 // A command other than a waypoint, which reads neither sensors nor cap.
 fn unsensed(dt: f32, regime: FlightRegime, input: ControlInput) -> Wanted
-    ensures { λ r. ⌜ is.asCall r ≡ spec.guide dt regime input is.unsensed is.noCap ⌝ }
+    ensures { is.as_call result ≡ spec.guide dt regime input is.unsensed is.no_cap }
 {
     Wanted::Guide(GuideCall {
         dt,
@@ -62,7 +64,7 @@ fn unsensed(dt: f32, regime: FlightRegime, input: ControlInput) -> Wanted
 }
 
 fn taken_apart(call: Call) -> Wanted
-    ensures { λ r. ⌜ is.asCall r ≡ is.callOf call ⌝ }
+    ensures { is.as_call result ≡ is.call_of call }
 {
     match call {
         Call::Prime => Wanted::Prime,
@@ -104,7 +106,7 @@ fn taken_apart(call: Call) -> Wanted
 }
 
 fn guided(g: PlaneGuidance, k: GuideCall) -> Performed
-    ensures { λ r. ⌜ is.asOutcome r ≡ spec.perform g (is.guideOf k) ⌝ }
+    ensures { is.as_outcome result ≡ spec.perform g (is.guide_of k) }
 {
     let regime = k.regime;
     let input = k.input;
@@ -120,7 +122,7 @@ fn guided(g: PlaneGuidance, k: GuideCall) -> Performed
 }
 
 pub fn perform(g: PlaneGuidance, call: Call) -> Performed
-    ensures { λ r. ⌜ is.asOutcome r ≡ spec.perform g (is.callOf call) ⌝ }
+    ensures { is.as_outcome result ≡ spec.perform g (is.call_of call) }
 {
     let w = taken_apart(call);
     match w {

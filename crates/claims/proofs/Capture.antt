@@ -1,183 +1,183 @@
 -- Where the capture angle is NaN: only where the distance off the line over the L1 distance is, since the arcsine of every number from
 -- -1 to 1 is a number. Assumes nothing.
-use mathlib.Core.Path.{_≡_, refl, sym, ap, _∙_, subst}
+use mathlib.Core.Path.{◌≡◌, refl, sym, ap, ◌∙◌, subst}
 use mathlib.Core.Bool.{Bool, true, false, cond}
-use Prim.Native.Nat.{ℕ, zero, suc, _+_, _-_, _*_, _≤_}
+use Prim.Native.Nat.{ℕ, zero, suc, ◌-◌, ◌*◌}
 use native.Mathlib.Omega.{arith}
 use borrow.Author.Tests.{le-ltb}
-use lib.Dec.{T, eqb·suc-zero}
+use lib.Dec.{T, eqb-suc-zero}
 use lib.IntN.{ℤ, pos}
 use lib.Ieee as Ieee
-use lib.Ieee.{Float, nan, inf, fin, binary32, up, down, fits, round, sum, isNan, neg, lt, le, eq, ofBits, add, sub, mul, div}
+use lib.Ieee.{Float, nan, inf, fin, binary32, up, down, fits, round, sum, is_nan, neg, lt, le, eq, of_bits, add, sub, mul, div}
 use lib.Ieee.Fits.{cond-fits, div-fits}
-use Rattle·arithmetic.specs.Constants.{_-ᶠ_, _·ᶠ_, _/ᶠ_, n0, n1}
-use Rattle·arithmetic.specs.Order.{clamp, finite, size}
-use Rattle·arithmetic.specs.Root.{rootOf, nearestRoot}
-use Rattle·arithmetic.specs.Trigonometry.{arctangent, arctangentOfSize, arcsine}
-use Rattle·arithmetic.proofs.Bounds.{never, never′, nan-is, AtLeastZero, an-inf, plain, minus-zero, at-least, from-0, zero-is}
-use Rattle·arithmetic.proofs.Bounds.{finite-number, right-number, le-of-not-lt, clamped-low, clamped-high}
-use Rattle·arithmetic.proofs.Sums.{cross-of, le-trans, sub-mono, round-neg, round-plain}
-use Rattle·arithmetic.proofs.Signs.{size-number, size-unsigned, signed-number}
-use Rattle·arithmetic.proofs.Arctangent.{zero-exponent, arctangent-number}
-use Rattle·arithmetic.proofs.Within.{Within, held, within-finite, mul-within}
-use Rattle·laws.specs.Navigation.{maxCapture, capture}
-use Rattle·claims·specs.specs.StraightBack.{NoCapture}
+use Rattle.arithmetic.specs.Constants.{◌-ᶠ◌, ◌·ᶠ◌, ◌/ᶠ◌, n0, n1}
+use Rattle.arithmetic.specs.Order.{clamp, finite, size}
+use Rattle.arithmetic.specs.Root.{root_of, nearest_root}
+use Rattle.arithmetic.specs.Trigonometry.{arctangent, arctangent_of_size, arcsine}
+use Rattle.arithmetic.proofs.Bounds.{never, never', nan_is, AtLeastZero, an_inf, plain, minus_zero_lem, at_least, from_0, zero_is}
+use Rattle.arithmetic.proofs.Bounds.{finite_number, right_number, le_of_not_lt, clamped_low, clamped_high}
+use Rattle.arithmetic.proofs.Sums.{cross_of, le_trans, sub_mono, round_neg, round_plain}
+use Rattle.arithmetic.proofs.Signs.{size_number, size_unsigned, signed_number}
+use Rattle.arithmetic.proofs.Arctangent.{zero_exponent, arctangent_number}
+use Rattle.arithmetic.proofs.Within.{Within, held, within_finite, mul_within}
+use Rattle.laws.specs.Navigation.{max_capture, capture}
+use Rattle.claims.specs.StraightBack.{NoCapture}
 
-one-is : n1 ≡ fin false 1 (pos 0)
-unfolding ofBits
-one-is = refl
+one_is : n1 ≡ fin false 1 (pos 0)
+unfolding of_bits
+one_is = refl
 
-less-one-is : neg n1 ≡ fin true 1 (pos 0)
-unfolding neg ofBits
-less-one-is = refl
+less_one_is : neg n1 ≡ fin true 1 (pos 0)
+unfolding neg of_bits
+less_one_is = refl
 
 -- ---- rounded numbers
 
-at-least-number : {x : Float} → AtLeastZero x → isNan x ≡ false
-unfolding isNan
-at-least-number an-inf = refl
-at-least-number (plain m e) = refl
-at-least-number (minus-zero e) = refl
+at_least_number : {x : Float} → AtLeastZero x → is_nan x ≡ false
+unfolding is_nan
+at_least_number an_inf = refl
+at_least_number (plain m e) = refl
+at_least_number (minus_zero_lem e) = refl
 
-neg-number : {x : Float} → AtLeastZero x → isNan (neg x) ≡ false
-unfolding isNan neg
-neg-number an-inf = refl
-neg-number (plain m e) = refl
-neg-number (minus-zero e) = refl
+neg_number : {x : Float} → AtLeastZero x → is_nan (neg x) ≡ false
+unfolding is_nan neg
+neg_number an_inf = refl
+neg_number (plain m e) = refl
+neg_number (minus_zero_lem e) = refl
 
-round-number : (s : Bool) (a c : ℕ) → isNan (round binary32 s a c) ≡ false
-round-number false a c = at-least-number (round-plain binary32 a c)
-round-number true a c = ap isNan (round-neg binary32 a c) ∙ neg-number (round-plain binary32 a c)
+round_number : (s : Bool) (a c : ℕ) → is_nan (round binary32 s a c) ≡ false
+round_number false a c = at_least_number (round_plain binary32 a c)
+round_number true a c = ap is_nan (round_neg binary32 a c) ∙ neg_number (round_plain binary32 a c)
 
 -- ---- from -1 to 1
 
-within-one : (r : Float) → le (fin true 1 (pos 0)) r ≡ true → le r (fin false 1 (pos 0)) ≡ true → Within 1 1 r
+within_one : (r : Float) → le (fin true 1 (pos 0)) r ≡ true → le r (fin false 1 (pos 0)) ≡ true → Within 1 1 r
 unfolding le
-within-one nan l h = never l
-within-one (inf true) l h = never l
-within-one (inf false) l h = never h
-within-one (fin false m e) l h = let g = cross-of false false (m * up e * down (pos 0)) (1 * up (pos 0) * down e) h in omega (arith, g)
-within-one (fin true m e) l h = let g = cross-of true true (1 * up (pos 0) * down e) (m * up e * down (pos 0)) l in omega (arith, g)
+within_one nan l h = never l
+within_one (inf true) l h = never l
+within_one (inf false) l h = never h
+within_one (fin false m e) l h = let g = cross_of false false (m * up e * down (pos 0)) (1 * up (pos 0) * down e) h in omega (arith, g)
+within_one (fin true m e) l h = let g = cross_of true true (1 * up (pos 0) * down e) (m * up e * down (pos 0)) l in omega (arith, g)
 
-not-above-one : (x : Float) → Within 1 1 x → lt (fin false 1 (pos 0)) x ≡ false
+not_above_one : (x : Float) → Within 1 1 x → lt (fin false 1 (pos 0)) x ≡ false
 unfolding lt
-not-above-one nan h = absurd h
-not-above-one (inf s) h = absurd h
-not-above-one (fin true m e) h = refl
-not-above-one (fin false m e) h = le-ltb (1 * up (pos 0) * down e) (m * up e * down (pos 0)) (omega (arith, h))
+not_above_one nan h = absurd h
+not_above_one (inf s) h = absurd h
+not_above_one (fin true m e) h = refl
+not_above_one (fin false m e) h = le-ltb (1 * up (pos 0) * down e) (m * up e * down (pos 0)) (omega (arith, h))
 
 -- ---- the root of 1 - r·r
 
-less-itself : (x : Float) → Within 1 1 x → le n0 (x -ᶠ x) ≡ true
+less_itself : (x : Float) → Within 1 1 x → le n0 (x -ᶠ x) ≡ true
 unfolding sub neg add sum
-less-itself nan h = absurd h
-less-itself (inf s) h = absurd h
-less-itself (fin true m e) h =
+less_itself nan h = absurd h
+less_itself (inf s) h = absurd h
+less_itself (fin true m e) h =
     let a = m * up e * down e in
-    rw (le-ltb a a (omega arith)) (from-0 (round-plain binary32 (a - a) (down e * down e)))
-less-itself (fin false m e) h =
+    rw (le-ltb a a (omega arith)) (from_0 (round_plain binary32 (a - a) (down e * down e)))
+less_itself (fin false m e) h =
     let a = m * up e * down e in
-    rw (le-ltb a a (omega arith)) (from-0 (round-plain binary32 (a - a) (down e * down e)))
+    rw (le-ltb a a (omega arith)) (from_0 (round_plain binary32 (a - a) (down e * down e)))
 
-one-finite : finite n1 ≡ true
-unfolding finite ofBits
-one-finite = refl
+one_finite : finite n1 ≡ true
+unfolding finite of_bits
+one_finite = refl
 
-left-over : (x : Float) → Within 1 1 x → le n0 (n1 -ᶠ x) ≡ true
-left-over x h =
-    le-trans n0 (x -ᶠ x) (n1 -ᶠ x) (less-itself x h)
-    (sub-mono x n1 x (within-finite 1 1 x h) one-finite (within-finite 1 1 x h) at-most)
+left_over : (x : Float) → Within 1 1 x → le n0 (n1 -ᶠ x) ≡ true
+left_over x h =
+    le_trans n0 (x -ᶠ x) (n1 -ᶠ x) (less_itself x h)
+    (sub_mono x n1 x (within_finite 1 1 x h) one_finite (within_finite 1 1 x h) at_most)
   where
-    at-most : le x n1 ≡ true
-    at-most = le-of-not-lt n1 x (finite-number n1 one-finite) (finite-number x (within-finite 1 1 x h)) (rw one-is (not-above-one x h))
+    at_most : le x n1 ≡ true
+    at_most = le_of_not_lt n1 x (finite_number n1 one_finite) (finite_number x (within_finite 1 1 x h)) (rw one_is (not_above_one x h))
 
-root-number : {x : Float} → AtLeastZero x → isNan (rootOf binary32 x) ≡ false
-unfolding rootOf nearestRoot isNan
-root-number an-inf = refl
-root-number (plain zero e) = refl
-root-number (plain (suc m) e) = round-number false _ _
-root-number (minus-zero e) = refl
+root_number : {x : Float} → AtLeastZero x → is_nan (root_of binary32 x) ≡ false
+unfolding root_of nearest_root is_nan
+root_number an_inf = refl
+root_number (plain zero e) = refl
+root_number (plain (suc m) e) = round_number false _ _
+root_number (minus_zero_lem e) = refl
 
 -- ---- the arcsine
 
 -- a number that is no zero, over any number
-quotient-number : (s : Bool) (m : ℕ) (e : ℤ) (y : Float) → isNan y ≡ false → isNan (fin s (suc m) e /ᶠ y) ≡ false
-unfolding div isNan
-quotient-number s m e nan n = never′ n
-quotient-number s m e (inf t) n = refl
-quotient-number s m e (fin t zero d) n = rw (eqb·suc-zero m)
-quotient-number s m e (fin t (suc k) d) n = rw (eqb·suc-zero k) (round-number (Ieee.unlike s t) (suc m * up e * down d) (suc k * up d * down e))
+quotient_number : (s : Bool) (m : ℕ) (e : ℤ) (y : Float) → is_nan y ≡ false → is_nan (fin s (suc m) e /ᶠ y) ≡ false
+unfolding div is_nan
+quotient_number s m e nan n = never' n
+quotient_number s m e (inf t) n = refl
+quotient_number s m e (fin t zero d) n = rw (eqb-suc-zero m)
+quotient_number s m e (fin t (suc k) d) n = rw (eqb-suc-zero k) (round_number (Ieee.unlike s t) (suc m * up e * down d) (suc k * up d * down e))
 
 -- a zero, over the root of 1
-zero-over : (s : Bool) → let r = fin s 0 (pos 0) in isNan (r /ᶠ rootOf binary32 (n1 -ᶠ r ·ᶠ r)) ≡ false
-unfolding rootOf isNan neg ofBits add sub mul div
-zero-over true = refl
-zero-over false = refl
+zero_over : (s : Bool) → let r = fin s 0 (pos 0) in is_nan (r /ᶠ root_of binary32 (n1 -ᶠ r ·ᶠ r)) ≡ false
+unfolding root_of is_nan neg of_bits add sub mul div
+zero_over true = refl
+zero_over false = refl
 
-over-root : (r : Float) → T (fits binary32 r) → Within 1 1 r → isNan (r /ᶠ rootOf binary32 (n1 -ᶠ r ·ᶠ r)) ≡ false
+over_root : (r : Float) → T (fits binary32 r) → Within 1 1 r → is_nan (r /ᶠ root_of binary32 (n1 -ᶠ r ·ᶠ r)) ≡ false
 unfolding fits
-over-root nan f h = absurd h
-over-root (inf s) f h = absurd h
-over-root (fin s zero e) f h =
-    subst (λ (x : ℤ). isNan (fin s 0 x /ᶠ rootOf binary32 (n1 -ᶠ fin s 0 x ·ᶠ fin s 0 x)) ≡ false) (sym (zero-exponent e f)) (zero-over s)
-over-root (fin s (suc m) e) f h = quotient-number s m e _ (root-number (at-least _ (rw zero-is at (left-over square squared))))
+over_root nan f h = absurd h
+over_root (inf s) f h = absurd h
+over_root (fin s zero e) f h =
+    subst (λ (x : ℤ). is_nan (fin s 0 x /ᶠ root_of binary32 (n1 -ᶠ fin s 0 x ·ᶠ fin s 0 x)) ≡ false) (sym (zero_exponent e f)) (zero_over s)
+over_root (fin s (suc m) e) f h = quotient_number s m e _ (root_number (at_least _ (rw zero_is at (left_over square squared))))
   where
     square : Float
     square = fin s (suc m) e ·ᶠ fin s (suc m) e
 
     squared : Within 1 1 square
-    squared = mul-within 1 1 1 1 (fin s (suc m) e) (fin s (suc m) e) (omega arith) (held 1 0 (omega arith) (omega arith)) h h
+    squared = mul_within 1 1 1 1 (fin s (suc m) e) (fin s (suc m) e) (omega arith) (held 1 0 (omega arith) (omega arith)) h h
 
-arctangent-is : (v : Float) → isNan v ≡ false → isNan (arctangent v) ≡ false
+arctangent_is : (v : Float) → is_nan v ≡ false → is_nan (arctangent v) ≡ false
 unfolding arctangent
-arctangent-is v n = rw n (go (eq v n0))
+arctangent_is v n = rw n (go (eq v n0))
   where
-    go : (b : Bool) → isNan (cond b v (cond (lt v n0) (neg (arctangentOfSize (size v))) (arctangentOfSize (size v)))) ≡ false
+    go : (b : Bool) → is_nan (cond b v (cond (lt v n0) (neg (arctangent_of_size (size v))) (arctangent_of_size (size v)))) ≡ false
     go true = n
-    go false = signed-number (lt v n0) _ (arctangent-number (size v) (size-number v n) (size-unsigned v))
+    go false = signed_number (lt v n0) _ (arctangent_number (size v) (size_number v n) (size_unsigned v))
 
-arcsine-number : (r : Float) → T (fits binary32 r) → Within 1 1 r → isNan (arcsine r) ≡ false
+arcsine_number : (r : Float) → T (fits binary32 r) → Within 1 1 r → is_nan (arcsine r) ≡ false
 unfolding arcsine
-arcsine-number r f h = arctangent-is _ (over-root r f h)
+arcsine_number r f h = arctangent_is _ (over_root r f h)
 
 -- ---- the capture angle
 
-no-quotient : isNan (clamp (arcsine (clamp nan (neg n1) n1)) (neg maxCapture) maxCapture) ≡ true
-unfolding clamp arcsine arctangent isNan neg lt ofBits div
-no-quotient = refl
+no_quotient : is_nan (clamp (arcsine (clamp nan (neg n1) n1)) (neg max_capture) max_capture) ≡ true
+unfolding clamp arcsine arctangent is_nan neg lt of_bits div
+no_quotient = refl
 
-unit-ordered : (le (neg n1) n1 ≡ true) × (le (neg maxCapture) maxCapture ≡ true)
-unfolding le neg ofBits
-unit-ordered = (refl, refl)
+unit_ordered : (le (neg n1) n1 ≡ true) × (le (neg max_capture) max_capture ≡ true)
+unfolding le neg of_bits
+unit_ordered = (refl, refl)
 
-one-fits : T (fits binary32 n1) × T (fits binary32 (neg n1))
-unfolding fits neg ofBits
-one-fits = (tt, tt)
+one_fits : T (fits binary32 n1) × T (fits binary32 (neg n1))
+unfolding fits neg of_bits
+one_fits = (tt, tt)
 
-clamp-fits : (q : Float) → T (fits binary32 q) → T (fits binary32 (clamp q (neg n1) n1))
+clamp_fits : (q : Float) → T (fits binary32 q) → T (fits binary32 (clamp q (neg n1) n1))
 unfolding clamp
-clamp-fits q f = cond-fits binary32 (lt q (neg n1)) _ _ (one-fits .1) (cond-fits binary32 (lt n1 q) _ _ (one-fits .0) f)
+clamp_fits q f = cond-fits binary32 (lt q (neg n1)) _ _ one_fits.1 (cond-fits binary32 (lt n1 q) _ _ one_fits.0 f)
 
-pub no-capture : NoCapture
+pub no_capture : NoCapture
 unfolding capture
-no-capture crossTrack distance = go (isNan q) refl
+no_capture cross_track distance = go (is_nan q) refl
   where
     q : Float
-    q = crossTrack /ᶠ distance
+    q = cross_track /ᶠ distance
 
     r : Float
     r = clamp q (neg n1) n1
 
-    r-fits : T (fits binary32 r)
-    r-fits = clamp-fits q (div-fits binary32 crossTrack distance)
+    r_fits : T (fits binary32 r)
+    r_fits = clamp_fits q (div-fits binary32 cross_track distance)
 
-    in-one : isNan q ≡ false → Within 1 1 r
-    in-one n =
-        within-one r (subst (λ (x : Float). le x r ≡ true) less-one-is (clamped-low q (neg n1) n1 n (unit-ordered .0)))
-        (subst (λ (x : Float). le r x ≡ true) one-is (clamped-high q (neg n1) n1 n (unit-ordered .0)))
+    in_one : is_nan q ≡ false → Within 1 1 r
+    in_one n =
+        within_one r (subst (λ (x : Float). le x r ≡ true) less_one_is (clamped_low q (neg n1) n1 n unit_ordered.0))
+        (subst (λ (x : Float). le r x ≡ true) one_is (clamped_high q (neg n1) n1 n unit_ordered.0))
 
-    go : (b : Bool) → isNan q ≡ b → isNan (clamp (arcsine (clamp q (neg n1) n1)) (neg maxCapture) maxCapture) ≡ b
-    go true h = rw (nan-is q h) no-quotient
+    go : (b : Bool) → is_nan q ≡ b → is_nan (clamp (arcsine (clamp q (neg n1) n1)) (neg max_capture) max_capture) ≡ b
+    go true h = rw (nan_is q h) no_quotient
     go false h =
-        right-number (neg maxCapture) _
-        (clamped-low (arcsine r) (neg maxCapture) maxCapture (arcsine-number r r-fits (in-one h)) (unit-ordered .1))
+        right_number (neg max_capture) _
+        (clamped_low (arcsine r) (neg max_capture) max_capture (arcsine_number r r_fits (in_one h)) unit_ordered.1)

@@ -1,49 +1,38 @@
 -- The bounds of every clamp of a guide call are in order, along every run. Assumes nothing.
-use mathlib.Core.Path.{_≡_, refl, sym}
-use mathlib.Core.Bool.{Bool, true, false, cond, not, _&&_}
-use mathlib.Core.List.{List, _∷_, _++_}
+use mathlib.Core.Path.{◌≡◌, refl, sym}
+use mathlib.Core.Bool.{Bool, true, false, cond, not, ◌&&◌}
+use mathlib.Core.List.{List}
 use lib.Ieee as Ieee
-use lib.Ieee.{Float, neg, isNan, le, lt}
-use Rattle·arithmetic.specs.Constants.{_+ᶠ_, _-ᶠ_, _·ᶠ_, _/ᶠ_, n0, n1, fracPi4}
-use Rattle·arithmetic.specs.Order.{greatest, finite}
-use Rattle·arithmetic.proofs.Bounds.{
-  AtLeastZero,
-  between,
-  never,
-  and-left,
-  and-right,
-  left-number,
-  right-number,
-  finite-number,
-  greatest-right,
-  zero-between,
-}
-use Rattle·arithmetic.proofs.Sums.{sub-mono, neg-finite}
-use Rattle·laws.specs.Config.{validate}
-use Rattle·laws.specs.Math.{limitOrZero}
-use Rattle·laws.specs.Types.{gravity}
-use Rattle·laws.specs.Tecs.{half, minGainAirspeed, thrustIntegralMargin, maxEnergyRate, allInputsFinite}
-use Rattle·laws.proofs.Ordered.{limit-number}
-use Rattle·laws.proofs.Validated.{valid-field}
-use Rattle·laws.specs.declared.config.TecsConfig.{TecsConfig}
-use Rattle·laws.specs.declared.config.PlaneGuidanceConfig.{PlaneGuidanceConfig}
-use Rattle·laws.specs.declared.tecs.Inputs.{Inputs}
-use Rattle·laws.specs.declared.types.OptionF32.{OptionF32}
-use Rattle·laws.specs.declared.types.WaypointCommand.{WaypointCommand}
-use Rattle·laws.specs.declared.types.VehicleState.{VehicleState}
-use Rattle·guidance.specs.Plane as Plane
-use Rattle·guidance.specs.Plane.{topThrust, limitsOf, capped, badTimeStep, badCap}
-use Rattle·claims·specs.specs.Calls.{Call}
-use Rattle·claims·specs.specs.Clamps.{FixedBounds, EnergyBounds, FallbackBounds, WaypointBounds, ClampsOrdered}
-use Rattle·claims·proofs.proofs.Spans.{
+use lib.Ieee.{Float, neg, is_nan, le, lt}
+use Rattle.arithmetic.specs.Constants.{◌-ᶠ◌, ◌·ᶠ◌, ◌/ᶠ◌, n0, n1, frac_pi4}
+use Rattle.arithmetic.specs.Order.{greatest, finite}
+use Rattle.arithmetic.proofs.Bounds.{AtLeastZero, between, never, and_left, and_right, left_number, finite_number, greatest_right, zero_between}
+use Rattle.arithmetic.proofs.Sums.{sub_mono, neg_finite}
+use Rattle.laws.specs.Config.{validate}
+use Rattle.laws.specs.Math.{limit_or_zero}
+use Rattle.laws.specs.Types.{gravity}
+use Rattle.laws.specs.Tecs.{half, min_gain_airspeed, thrust_integral_margin, max_energy_rate, all_inputs_finite}
+use Rattle.laws.proofs.Ordered.{limit_number}
+use Rattle.laws.proofs.Validated.{valid_field}
+use Rattle.laws.specs.declared.config.TecsConfig.{TecsConfig}
+use Rattle.laws.specs.declared.config.PlaneGuidanceConfig.{PlaneGuidanceConfig}
+use Rattle.laws.specs.declared.tecs.Inputs.{Inputs}
+use Rattle.laws.specs.declared.types.OptionF32.{OptionF32}
+use Rattle.laws.specs.declared.types.WaypointCommand.{WaypointCommand}
+use Rattle.laws.specs.declared.types.VehicleState.{VehicleState}
+use Rattle.guidance.specs.Plane as Plane
+use Rattle.guidance.specs.Plane.{top_thrust, limits_of, capped, bad_time_step, bad_cap}
+use Rattle.claims.specs.Calls.{Call}
+use Rattle.claims.specs.Clamps.{FixedBounds, EnergyBounds, FallbackBounds, WaypointBounds, ClampsOrdered}
+use Rattle.claims.proofs.Spans.{
   Positive,
-  is-positive,
-  positive-least,
-  positive-finite,
-  at-least-zero,
-  greatest-positive,
-  product-left,
-  product-right,
+  is_positive,
+  positive_least,
+  positive_finite,
+  at_least_zero_lem,
+  greatest_positive,
+  product_left,
+  product_right,
   quotient,
   spans,
   apart,
@@ -51,163 +40,163 @@ use Rattle·claims·proofs.proofs.Spans.{
   less,
   widen,
 }
-use Rattle·claims·proofs.proofs.Limited.{Valid, valid, cap-finite, thrust-span, pitch-span, within-finite, zero-finite}
-use Rattle·claims·proofs.proofs.Runs.{valid-along}
+use Rattle.claims.proofs.Limited.{Valid, valid, cap_finite, thrust_span, pitch_span, within_finite, zero_finite}
+use Rattle.claims.proofs.Runs.{valid_along}
 
 -- ---- constants
-above-zero : (lt n0 gravity ≡ true) × (lt n0 half ≡ true) × (lt n0 minGainAirspeed ≡ true) × (lt n0 thrustIntegralMargin ≡ true)
-unfolding Ieee.ofBits lt
-above-zero = (refl, refl, refl, refl)
+above_zero : (lt n0 gravity ≡ true) × (lt n0 half ≡ true) × (lt n0 min_gain_airspeed ≡ true) × (lt n0 thrust_integral_margin ≡ true)
+unfolding Ieee.of_bits lt
+above_zero = (refl, refl, refl, refl)
 
-all-finite : (finite gravity ≡ true) × (finite half ≡ true) × (finite minGainAirspeed ≡ true) × (finite thrustIntegralMargin ≡ true)
-unfolding Ieee.ofBits finite
-all-finite = (refl, refl, refl, refl)
+all_finite_lem : (finite gravity ≡ true) × (finite half ≡ true) × (finite min_gain_airspeed ≡ true) × (finite thrust_integral_margin ≡ true)
+unfolding Ieee.of_bits finite
+all_finite_lem = (refl, refl, refl, refl)
 
-gravity-positive : Positive gravity
-gravity-positive = is-positive gravity (above-zero .0) (all-finite .0)
+gravity_positive : Positive gravity
+gravity_positive = is_positive gravity above_zero.0 all_finite_lem.0
 
-half-positive : Positive half
-half-positive = is-positive half (above-zero .1) (all-finite .1)
+half_positive : Positive half
+half_positive = is_positive half above_zero.1 all_finite_lem.1
 
-gain-positive : Positive minGainAirspeed
-gain-positive = is-positive minGainAirspeed (above-zero .2) (all-finite .2)
+gain_positive : Positive min_gain_airspeed
+gain_positive = is_positive min_gain_airspeed above_zero.2 all_finite_lem.2
 
-margin-positive : Positive thrustIntegralMargin
-margin-positive = is-positive thrustIntegralMargin (above-zero .3) (all-finite .3)
+margin_positive : Positive thrust_integral_margin
+margin_positive = is_positive thrust_integral_margin above_zero.3 all_finite_lem.3
 
-one-finite : finite n1 ≡ true
-unfolding Ieee.ofBits finite
-one-finite = refl
+one_finite : finite n1 ≡ true
+unfolding Ieee.of_bits finite
+one_finite = refl
 
-unit-ordered : (le n0 n1 ≡ true) × (le (neg n1) n1 ≡ true) × (le (neg fracPi4) fracPi4 ≡ true)
-unfolding Ieee.ofBits le neg
-unit-ordered = (refl, refl, refl)
+unit_ordered : (le n0 n1 ≡ true) × (le (neg n1) n1 ≡ true) × (le (neg frac_pi4) frac_pi4 ≡ true)
+unfolding Ieee.of_bits le neg
+unit_ordered = (refl, refl, refl)
 
 fixed : FixedBounds
 fixed = record {
-  throttle = unit-ordered .0;
-  symmetric = λ limit. zero-between (limitOrZero limit) (limitOrZero limit) (limit-number limit) (limit-number limit);
-  ratio = unit-ordered .1;
-  capture = unit-ordered .2;
+  throttle = unit_ordered.0;
+  symmetric = λ limit. zero_between (limit_or_zero limit) (limit_or_zero limit) (limit_number limit) (limit_number limit);
+  ratio = unit_ordered.1;
+  capture = unit_ordered.2;
 }
 
 -- ---- a valid configuration
-positive-field : (x : Float) → lt n0 x && finite x ≡ true → Positive x
-positive-field x e = is-positive x (and-left (lt n0 x) (finite x) e) (and-right (lt n0 x) (finite x) e)
+positive_field : (x : Float) → lt n0 x && finite x ≡ true → Positive x
+positive_field x e = is_positive x (and_left (lt n0 x) (finite x) e) (and_right (lt n0 x) (finite x) e)
 
-either-finite : (b : Bool) (x y : Float) → finite x ≡ true → finite y ≡ true → finite (cond b x y) ≡ true
-either-finite true x y p q = p
-either-finite false x y p q = q
+either_finite : (b : Bool) (x y : Float) → finite x ≡ true → finite y ≡ true → finite (cond b x y) ≡ true
+either_finite true x y p q = p
+either_finite false x y p q = q
 
-greatest-finite : (a b : Float) → finite a ≡ true → finite b ≡ true → finite (greatest a b) ≡ true
+greatest_finite : (a b : Float) → finite a ≡ true → finite b ≡ true → finite (greatest a b) ≡ true
 unfolding greatest
-greatest-finite a b p q = either-finite (isNan a) _ _ q (either-finite (isNan b) _ _ p (either-finite (lt b a) _ _ p q))
+greatest_finite a b p q = either_finite (is_nan a) _ _ q (either_finite (is_nan b) _ _ p (either_finite (lt b a) _ _ p q))
 
-module _ (c : PlaneGuidanceConfig) (e : validate c ≡ 0) (cap : OptionF32) (q : badCap cap ≡ false) where
+module _ (c : PlaneGuidanceConfig) (e : validate c ≡ 0) (cap : OptionF32) (q : bad_cap cap ≡ false) where
   v : Valid c
   v = valid c e
 
   t : TecsConfig
-  t = c .tecs
+  t = c.tecs
 
-  least-finite : finite (c .«min_thrust») ≡ true
-  least-finite = within-finite n0 _ n1 zero-finite one-finite (valid-field c e 31)
+  least_finite : finite c.min_thrust ≡ true
+  least_finite = within_finite n0 _ n1 zero_finite one_finite (valid_field c e 31)
 
-  most-finite : finite (c .«max_thrust») ≡ true
-  most-finite = within-finite n0 _ n1 zero-finite one-finite (valid-field c e 32)
+  most_finite : finite c.max_thrust ≡ true
+  most_finite = within_finite n0 _ n1 zero_finite one_finite (valid_field c e 32)
 
-  top-finite : finite (topThrust c) ≡ true
-  unfolding topThrust
-  top-finite = greatest-finite _ _ most-finite least-finite
+  top_finite : finite (top_thrust c) ≡ true
+  unfolding top_thrust
+  top_finite = greatest_finite _ _ most_finite least_finite
 
   abbrev down : Float
-  down = capped (c .«max_pitch_down_rad») cap
+  down = capped c.max_pitch_down_rad cap
 
   abbrev up : Float
-  up = capped (c .«max_pitch_up_rad») cap
+  up = capped c.max_pitch_up_rad cap
 
-  down-finite : finite (neg down) ≡ true
-  down-finite = neg-finite down (cap-finite _ cap (v .down-finite) q)
+  down_finite : finite (neg down) ≡ true
+  down_finite = neg_finite down (cap_finite _ cap v.down_finite q)
 
-  up-finite : finite up ≡ true
-  up-finite = cap-finite _ cap (v .up-finite) q
+  up_finite : finite up ≡ true
+  up_finite = cap_finite _ cap v.up_finite q
 
-  fallback-bounds : FallbackBounds c (limitsOf c cap)
-  unfolding limitsOf
-  fallback-bounds = record {
+  fallback_bounds : FallbackBounds c (limits_of c cap)
+  unfolding limits_of
+  fallback_bounds = record {
     correction =
-        greatest-right (up -ᶠ c .«trim_pitch_rad») (neg down -ᶠ c .«trim_pitch_rad»)
-        (left-number _ (up -ᶠ c .«trim_pitch_rad») (sub-mono (neg down) up (c .«trim_pitch_rad») down-finite up-finite (v .trim-finite) (pitch-span c cap v q)));
-    thrust = thrust-span c v;
+        greatest_right (up -ᶠ c.trim_pitch_rad) (neg down -ᶠ c.trim_pitch_rad)
+        (left_number _ (up -ᶠ c.trim_pitch_rad) (sub_mono (neg down) up c.trim_pitch_rad down_finite up_finite v.trim_finite (pitch_span c cap v q)));
+    thrust = thrust_span c v;
   }
 
-  module _ (inputs : Inputs) (dt-positive : Positive (inputs .dt)) (a : allInputsFinite inputs ≡ true) where
-    sink-least : AtLeastZero (c .tecs .«max_sink_mps»)
-    sink-least = at-least-zero _ (and-left (le n0 (c .tecs .«max_sink_mps»)) (finite (c .tecs .«max_sink_mps»)) (valid-field c e 18))
+  module _ (inputs : Inputs) (dt-positive : Positive inputs.dt) (a : all_inputs_finite inputs ≡ true) where
+    sink_least : AtLeastZero c.tecs.max_sink_mps
+    sink_least = at_least_zero_lem _ (and_left (le n0 c.tecs.max_sink_mps) (finite c.tecs.max_sink_mps) (valid_field c e 18))
 
-    climb-positive : Positive (c .tecs .«max_climb_mps»)
-    climb-positive = positive-field _ (valid-field c e 16)
+    climb_positive : Positive c.tecs.max_climb_mps
+    climb_positive = positive_field _ (valid_field c e 16)
 
-    climb-least : AtLeastZero (c .tecs .«max_climb_mps»)
-    climb-least = positive-least climb-positive
+    climb_least : AtLeastZero c.tecs.max_climb_mps
+    climb_least = positive_least climb_positive
 
-    least-sink : AtLeastZero (c .tecs .«min_sink_mps»)
-    least-sink = positive-least (positive-field _ (valid-field c e 17))
+    least_sink : AtLeastZero c.tecs.min_sink_mps
+    least_sink = positive_least (positive_field _ (valid_field c e 17))
 
-    window-positive : Positive (greatest (c .tecs .«time_constant_s») (c .tecs .«height_demand_time_constant_s»))
-    window-positive =
-        greatest-positive (c .tecs .«time_constant_s») (positive-field _ (valid-field c e 28)) (positive-finite (positive-field _ (valid-field c e 15)))
+    window_positive : Positive (greatest c.tecs.time_constant_s c.tecs.height_demand_time_constant_s)
+    window_positive =
+        greatest_positive c.tecs.time_constant_s (positive_field _ (valid_field c e 28)) (positive_finite (positive_field _ (valid_field c e 15)))
 
-    airspeed-finite : finite (inputs .«airspeed_mps») ≡ true
-    unfolding allInputsFinite
-    airspeed-finite =
-        let h = finite (inputs .«altitude_m») && finite (inputs .«airspeed_target_mps») in
-        and-right h (finite (inputs .«airspeed_mps»))
-        (and-left (h && finite (inputs .«airspeed_mps»)) (finite (inputs .«height_m»)) (and-left _ (finite (inputs .«climb_mps»)) a))
+    airspeed_finite : finite inputs.airspeed_mps ≡ true
+    unfolding all_inputs_finite
+    airspeed_finite =
+        let h = finite inputs.altitude_m && finite inputs.airspeed_target_mps in
+        and_right h (finite inputs.airspeed_mps)
+        (and_left (h && finite inputs.airspeed_mps) (finite inputs.height_m) (and_left _ (finite inputs.climb_mps) a))
 
-    height-finite : finite (inputs .«height_m») ≡ true
-    unfolding allInputsFinite
-    height-finite =
-        and-right (finite (inputs .«altitude_m») && finite (inputs .«airspeed_target_mps») && finite (inputs .«airspeed_mps»)) (finite (inputs .«height_m»))
-        (and-left _ (finite (inputs .«climb_mps»)) a)
+    height_finite : finite inputs.height_m ≡ true
+    unfolding all_inputs_finite
+    height_finite =
+        and_right (finite inputs.altitude_m && finite inputs.airspeed_target_mps && finite inputs.airspeed_mps) (finite inputs.height_m)
+        (and_left _ (finite inputs.climb_mps) a)
 
-    rate-least : AtLeastZero (maxEnergyRate (c .tecs))
-    rate-least = product-left gravity-positive climb-least
+    rate_least : AtLeastZero (max_energy_rate c.tecs)
+    rate_least = product_left gravity_positive climb_least
 
-    accel-least : AtLeastZero (half ·ᶠ maxEnergyRate (c .tecs) /ᶠ greatest (inputs .«airspeed_mps») minGainAirspeed)
-    accel-least = quotient (product-left half-positive rate-least) (greatest-positive (inputs .«airspeed_mps») gain-positive airspeed-finite)
+    accel_least : AtLeastZero (half ·ᶠ max_energy_rate c.tecs /ᶠ greatest inputs.airspeed_mps min_gain_airspeed)
+    accel_least = quotient (product_left half_positive rate_least) (greatest_positive inputs.airspeed_mps gain_positive airspeed_finite)
 
-    energy-bounds : EnergyBounds (c .tecs) (limitsOf c cap) inputs
-    unfolding limitsOf
-    energy-bounds = record {
-      climb = between sink-least climb-least;
-      airspeed = greatest-right _ _ (finite-number _ (positive-finite (positive-field (c .tecs .«min_airspeed_mps») (valid-field c e 25))));
-      rise = spans _ _ _ _ (product-right sink-least dt-positive) (product-right climb-least dt-positive);
-      height = apart _ _ _ height-finite (product-left window-positive sink-least) (product-left window-positive climb-least);
-      acceleration = spans _ _ _ _ (product-right accel-least dt-positive) (product-right accel-least dt-positive);
-      balance-rate = spans _ _ _ _ (product-left gravity-positive sink-least) rate-least;
-      total-rate = spans _ _ _ _ (product-left gravity-positive least-sink) rate-least;
-      thrust = thrust-span c v;
-      thrust-integral = λ p n. widen _ _ _ margin-positive (less _ _ p least-finite top-finite n (thrust-span c v));
-      pitch-integral = difference (neg down) up down-finite up-finite (pitch-span c cap v q);
-      pitch = pitch-span c cap v q;
+    energy_bounds : EnergyBounds c.tecs (limits_of c cap) inputs
+    unfolding limits_of
+    energy_bounds = record {
+      climb = between sink_least climb_least;
+      airspeed = greatest_right _ _ (finite_number _ (positive_finite (positive_field c.tecs.min_airspeed_mps (valid_field c e 25))));
+      rise = spans _ _ _ _ (product_right sink_least dt-positive) (product_right climb_least dt-positive);
+      height = apart _ _ _ height_finite (product_left window_positive sink_least) (product_left window_positive climb_least);
+      acceleration = spans _ _ _ _ (product_right accel_least dt-positive) (product_right accel_least dt-positive);
+      balance_rate = spans _ _ _ _ (product_left gravity_positive sink_least) rate_least;
+      total_rate = spans _ _ _ _ (product_left gravity_positive least_sink) rate_least;
+      thrust = thrust_span c v;
+      thrust_integral = λ p n. widen _ _ _ margin_positive (less _ _ p least_finite top_finite n (thrust_span c v));
+      pitch_integral = difference (neg down) up down_finite up_finite (pitch_span c cap v q);
+      pitch = pitch_span c cap v q;
     }
 
 -- ---- a call that numbers 2 and 3 do not refuse
-step-passes : (b : Bool) → not b ≡ false → b ≡ true
-step-passes true p = refl
-step-passes false p = never (sym p)
+step_passes : (b : Bool) → not b ≡ false → b ≡ true
+step_passes true p = refl
+step_passes false p = never (sym p)
 
-waypoint-bounds : (c : PlaneGuidanceConfig) → validate c ≡ 0 → (dt : Float) (w : WaypointCommand) (s : VehicleState) (cap : OptionF32) →
-    badTimeStep dt ≡ false → badCap cap ≡ false → WaypointBounds c dt w s cap
+waypoint_bounds : (c : PlaneGuidanceConfig) → validate c ≡ 0 → (dt : Float) (w : WaypointCommand) (s : VehicleState) (cap : OptionF32) →
+    bad_time_step dt ≡ false → bad_cap cap ≡ false → WaypointBounds c dt w s cap
 unfolding Plane.inputs
-waypoint-bounds c e dt w s cap p q = record {
-  energy = λ a. energy-bounds c e cap q (Plane.inputs dt w s) (positive-field dt (step-passes (lt n0 dt && finite dt) p)) a;
-  fallback = fallback-bounds c e cap q;
+waypoint_bounds c e dt w s cap p q = record {
+  energy = λ a. energy_bounds c e cap q (Plane.inputs dt w s) (positive_field dt (step_passes (lt n0 dt && finite dt) p)) a;
+  fallback = fallback_bounds c e cap q;
 }
 
-pub clamps-ordered : (c : PlaneGuidanceConfig) → validate c ≡ 0 → (calls : List Call) → ClampsOrdered c calls
-clamps-ordered c e calls = record {
+pub clamps_ordered : (c : PlaneGuidanceConfig) → validate c ≡ 0 → (calls : List Call) → ClampsOrdered c calls
+clamps_ordered c e calls = record {
   fixed = fixed;
-  waypoints = λ before rest dt regime w s cap at p q. waypoint-bounds _ (valid-along c e before) dt w s cap p q;
+  waypoints = λ before rest dt regime w s cap at p q. waypoint_bounds _ (valid_along c e before) dt w s cap p q;
 }

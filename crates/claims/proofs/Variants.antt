@@ -1,60 +1,60 @@
 -- Why demand 3 is stated as it is: for each nearby statement a list of calls on which it fails, by computation. Assumes nothing.
 use Prim.Native.Nat.{ℕ}
-use mathlib.Core.Path.{_≡_, refl}
-use mathlib.Core.Bool.{Bool, true, false, cond, not, _&&_, _||_}
-use mathlib.Core.List.{List, [], _∷_, _++_}
+use mathlib.Core.Path.{◌≡◌, refl}
+use mathlib.Core.Bool.{Bool, true, false, cond, not, ◌&&◌, ◌||◌}
+use mathlib.Core.List.{List, [], ◌∷◌, ◌++◌}
 use lib.Dec.{eqb}
 use lib.Ieee as Ieee
-use lib.Ieee.{Float, neg, binary32, toBits, ofBits, le, isNan}
-use Rattle·arithmetic.specs.Constants.{f32, n0, n1}
-use Rattle·arithmetic.specs.Order.{least, greatest, clamp, finite, size}
-use Rattle·arithmetic.specs.Root.{rootOf}
-use Rattle·arithmetic.specs.Vector.{norm, normalise}
-use Rattle·arithmetic.specs.Trigonometry.{sine, folded, cosineOfFolded, cosine, arctangent}
-use Rattle·laws.specs.Config.{tecsDefault, default, firstFailing, validate}
-use Rattle·laws.specs.Math.{limitOrZero, clampSymmetric, saturateSymmetric, saturateUnit, saturateThrottle, lagged, allFinite}
-use Rattle·laws.specs.Types.{atLeastZero, validAirspeed}
-use Rattle·laws.specs.Navigation.{noCourse, idle, crossTrack, loiterAccel, finiteLeg, lateralAccel, bankForAccel, piPinned, piFinite, piStep}
-use Rattle·laws.specs.Tecs.{
+use lib.Ieee.{Float, neg, binary32, to_bits, of_bits, le, is_nan}
+use Rattle.arithmetic.specs.Constants.{f32, n0, n1}
+use Rattle.arithmetic.specs.Order.{least, greatest, clamp, finite, size}
+use Rattle.arithmetic.specs.Root.{root_of}
+use Rattle.arithmetic.specs.Vector.{norm, normalise}
+use Rattle.arithmetic.specs.Trigonometry.{sine, folded, cosine_of_folded, cosine, arctangent}
+use Rattle.laws.specs.Config.{tecs_default, default, first_failing, validate}
+use Rattle.laws.specs.Math.{limit_or_zero, clamp_symmetric, saturate_symmetric, saturate_unit, saturate_throttle, lagged, all_finite}
+use Rattle.laws.specs.Types.{at_least_zero, valid_airspeed}
+use Rattle.laws.specs.Navigation.{no_course, idle, cross_track, loiter_accel, finite_leg, lateral_accel, bank_for_accel, pi_pinned, pi_finite, pi_step}
+use Rattle.laws.specs.Tecs.{
   reset,
-  updateUnderspeed,
-  clampAirspeed,
-  seedDemand,
-  previousDemand,
-  slewedHeight,
-  slewedAirspeed,
-  nextDemand,
-  seedFilter,
-  previousFilter,
-  nextFilter,
-  energiesOf,
+  update_underspeed,
+  clamp_airspeed,
+  seed_demand,
+  previous_demand,
+  slewed_height,
+  slewed_airspeed,
+  next_demand,
+  seed_filter,
+  previous_filter,
+  next_filter,
+  energies_of,
   energies,
-  turnRate,
+  turn_rate,
   feedforward,
-  balancedThrust,
+  balanced_thrust,
   thrust,
-  pitchIntegral,
+  pitch_integral,
   pitch,
-  allInputsFinite,
+  all_inputs_finite,
   hold,
-  energyStep,
+  energy_step,
 }
-use Rattle·laws.specs.declared.config.TecsConfig.{TecsConfig}
-use Rattle·laws.specs.declared.config.PlaneGuidanceConfig.{PlaneGuidanceConfig}
-use Rattle·laws.specs.declared.types.OptionF32.{OptionF32}
-use Rattle·laws.specs.declared.types.OptionF32.the-variants.{None, Some}
-use Rattle·laws.specs.declared.types.OptionVec2.the-variants as Leg
-use Rattle·laws.specs.declared.types.ControlInput.the-variants as Input
-use Rattle·laws.specs.declared.types.FlightRegime.the-variants as Regime
-use Rattle·laws.specs.declared.types.VehicleState.{VehicleState}
-use Rattle·guidance.specs.Plane as Plane
-use Rattle·guidance.specs.Plane.{fresh, answerValues}
-use Rattle·claims·specs.specs.Calls.{
+use Rattle.laws.specs.declared.config.TecsConfig.{TecsConfig}
+use Rattle.laws.specs.declared.config.PlaneGuidanceConfig.{PlaneGuidanceConfig}
+use Rattle.laws.specs.declared.types.OptionF32.{OptionF32}
+use Rattle.laws.specs.declared.types.OptionF32.TheVariants.{None, Some}
+use Rattle.laws.specs.declared.types.OptionVec2.TheVariants as Leg
+use Rattle.laws.specs.declared.types.ControlInput.TheVariants as Input
+use Rattle.laws.specs.declared.types.FlightRegime.TheVariants as Regime
+use Rattle.laws.specs.declared.types.VehicleState.{VehicleState}
+use Rattle.guidance.specs.Plane as Plane
+use Rattle.guidance.specs.Plane.{fresh, answer_values}
+use Rattle.claims.specs.Calls.{
   Call,
   guide,
   prime,
-  setConfig,
-  takeBack,
+  set_config,
+  take_back,
   Reply,
   answered,
   done,
@@ -65,30 +65,30 @@ use Rattle·claims·specs.specs.Calls.{
   replies,
   after,
   refusals,
-  lawIs,
-  isFallback,
-  fellBack,
+  law_is,
+  is_fallback,
+  fell_back,
   struck,
   holds,
   unmarked,
-  startsFresh,
-  settingsOf,
-  freshWith,
+  starts_fresh,
+  settings_of,
+  fresh_with,
 }
-use Rattle·claims·specs.specs.Limits.{InForce, atStart, underspeedAt, inForceAfter}
-use Rattle·guidance.specs.declared.plane.PlaneGuidance.{PlaneGuidance}
-use Rattle·guidance.specs.declared.plane.Answer.the-variants.{Refused, Commanded, Waypoint}
+use Rattle.claims.specs.Limits.{InForce, at_start, underspeed_at, in_force_after}
+use Rattle.guidance.specs.declared.plane.PlaneGuidance.{PlaneGuidance}
+use Rattle.guidance.specs.declared.plane.Answer.TheVariants.{Refused, Commanded, Waypoint}
 
 -- ---- replies compared as bits
 bits : List Float → List ℕ
 bits [] = []
-bits (x ∷ xs) = toBits binary32 x ∷ bits xs
+bits (x ∷ xs) = to_bits binary32 x ∷ bits xs
 
-bitsOf : Reply → List ℕ
-bitsOf (answered a) = bits (answerValues a)
-bitsOf done = []
-bitsOf (field n) = n ∷ []
-bitsOf (back n) = n ∷ []
+bits_of : Reply → List ℕ
+bits_of (answered a) = bits (answer_values a)
+bits_of done = []
+bits_of (field n) = n ∷ []
+bits_of (back n) = n ∷ []
 
 same : List ℕ → List ℕ → Bool
 same [] [] = true
@@ -96,109 +96,109 @@ same [] (y ∷ ys) = false
 same (x ∷ xs) [] = false
 same (x ∷ xs) (y ∷ ys) = eqb x y && same xs ys
 
-sameReplies : List Reply → List Reply → Bool
-sameReplies [] [] = true
-sameReplies [] (y ∷ ys) = false
-sameReplies (x ∷ xs) [] = false
-sameReplies (x ∷ xs) (y ∷ ys) = same (bitsOf x) (bitsOf y) && sameReplies xs ys
+same_replies : List Reply → List Reply → Bool
+same_replies [] [] = true
+same_replies [] (y ∷ ys) = false
+same_replies (x ∷ xs) [] = false
+same_replies (x ∷ xs) (y ∷ ys) = same (bits_of x) (bits_of y) && same_replies xs ys
 
 -- ---- a way of striking: which calls go, and what is remembered of a call
-strikesBy : (Bool → Call → Bool → Bool) → (Bool → Call → Bool → Bool) → Bool → List Call → List Bool → List Bool
-strikesBy goes next before [] rs = []
-strikesBy goes next before (k ∷ ks) [] = []
-strikesBy goes next before (k ∷ ks) (r ∷ rs) = goes before k r ∷ strikesBy goes next (next before k r) ks rs
+strikes_by : (Bool → Call → Bool → Bool) → (Bool → Call → Bool → Bool) → Bool → List Call → List Bool → List Bool
+strikes_by goes next before [] rs = []
+strikes_by goes next before (k ∷ ks) [] = []
+strikes_by goes next before (k ∷ ks) (r ∷ rs) = goes before k r ∷ strikes_by goes next (next before k r) ks rs
 
 -- whether the remaining list gives its first replies again
-leavesNoTrace : (Bool → Call → Bool → Bool) → (Bool → Call → Bool → Bool) → List Call → Bool
-leavesNoTrace goes next ks =
+leaves_no_trace : (Bool → Call → Bool → Bool) → (Bool → Call → Bool → Bool) → List Call → Bool
+leaves_no_trace goes next ks =
     let first = replies (fresh default) ks in
-    let ms = strikesBy goes next false ks (refusals first) in
-    sameReplies (replies (fresh default) (unmarked ms ks)) (unmarked ms first)
+    let ms = strikes_by goes next false ks (refusals first) in
+    same_replies (replies (fresh default) (unmarked ms ks)) (unmarked ms first)
 
 -- ---- configurations: the defaults with other numbers
 
 -- speed weight, least airspeed and its share
-unfoldable pub tecsWith : Float → Float → Float → TecsConfig
-tecsWith weight least share = record {
-  «time_constant_s» = tecsDefault .«time_constant_s»;
-  «max_climb_mps» = tecsDefault .«max_climb_mps»;
-  «min_sink_mps» = tecsDefault .«min_sink_mps»;
-  «max_sink_mps» = tecsDefault .«max_sink_mps»;
-  «thrust_damping» = tecsDefault .«thrust_damping»;
-  «integrator_gain» = tecsDefault .«integrator_gain»;
-  «pitch_damping» = tecsDefault .«pitch_damping»;
-  «pitch_integrator_gain» = tecsDefault .«pitch_integrator_gain»;
-  «speed_weight» = weight;
-  «roll_compensation» = tecsDefault .«roll_compensation»;
-  «min_airspeed_mps» = least;
-  «max_airspeed_mps» = tecsDefault .«max_airspeed_mps»;
-  «underspeed_share» = share;
-  «height_demand_time_constant_s» = tecsDefault .«height_demand_time_constant_s»;
-  «airspeed_rate_time_constant_s» = tecsDefault .«airspeed_rate_time_constant_s»;
-  «kinetic_rate_high_pass_s» = tecsDefault .«kinetic_rate_high_pass_s»;
+unfoldable pub tecs_with : Float → Float → Float → TecsConfig
+tecs_with weight least share = record {
+  time_constant_s = tecs_default.time_constant_s;
+  max_climb_mps = tecs_default.max_climb_mps;
+  min_sink_mps = tecs_default.min_sink_mps;
+  max_sink_mps = tecs_default.max_sink_mps;
+  thrust_damping = tecs_default.thrust_damping;
+  integrator_gain = tecs_default.integrator_gain;
+  pitch_damping = tecs_default.pitch_damping;
+  pitch_integrator_gain = tecs_default.pitch_integrator_gain;
+  speed_weight = weight;
+  roll_compensation = tecs_default.roll_compensation;
+  min_airspeed_mps = least;
+  max_airspeed_mps = tecs_default.max_airspeed_mps;
+  underspeed_share = share;
+  height_demand_time_constant_s = tecs_default.height_demand_time_constant_s;
+  airspeed_rate_time_constant_s = tecs_default.airspeed_rate_time_constant_s;
+  kinetic_rate_high_pass_s = tecs_default.kinetic_rate_high_pass_s;
 }
 
 -- trim, least and greatest thrust, and the energy configuration
-unfoldable pub configWith : Float → Float → Float → TecsConfig → PlaneGuidanceConfig
-configWith trim low high t = record {
-  «max_bank_rad» = default .«max_bank_rad»;
-  «max_pitch_up_rad» = default .«max_pitch_up_rad»;
-  «max_pitch_down_rad» = default .«max_pitch_down_rad»;
-  «max_rate_radps» = default .«max_rate_radps»;
-  «trim_pitch_rad» = trim;
-  «cruise_thrust» = default .«cruise_thrust»;
-  «l1_period_s» = default .«l1_period_s»;
-  «l1_damping» = default .«l1_damping»;
-  «loiter_radius_m» = default .«loiter_radius_m»;
-  «altitude_p» = default .«altitude_p»;
-  «altitude_i» = default .«altitude_i»;
-  «altitude_max_integral» = default .«altitude_max_integral»;
+unfoldable pub config_with : Float → Float → Float → TecsConfig → PlaneGuidanceConfig
+config_with trim low high t = record {
+  max_bank_rad = default.max_bank_rad;
+  max_pitch_up_rad = default.max_pitch_up_rad;
+  max_pitch_down_rad = default.max_pitch_down_rad;
+  max_rate_radps = default.max_rate_radps;
+  trim_pitch_rad = trim;
+  cruise_thrust = default.cruise_thrust;
+  l1_period_s = default.l1_period_s;
+  l1_damping = default.l1_damping;
+  loiter_radius_m = default.loiter_radius_m;
+  altitude_p = default.altitude_p;
+  altitude_i = default.altitude_i;
+  altitude_max_integral = default.altitude_max_integral;
   tecs = t;
-  «min_thrust» = low;
-  «max_thrust» = high;
-  «climb_thrust_per_rad» = default .«climb_thrust_per_rad»;
+  min_thrust = low;
+  max_thrust = high;
+  climb_thrust_per_rad = default.climb_thrust_per_rad;
 }
 
 -- a trim of 0.125
 trimmed : PlaneGuidanceConfig
-trimmed = configWith (f32 0x3e000000) (default .«min_thrust») (default .«max_thrust») tecsDefault
+trimmed = config_with (f32 0x3e000000) default.min_thrust default.max_thrust tecs_default
 
 -- thrust from 0 to 0.125
 weak : PlaneGuidanceConfig
-weak = configWith n0 n0 (f32 0x3e000000) tecsDefault
+weak = config_with n0 n0 (f32 0x3e000000) tecs_default
 
 -- thrust from 1 to 1, and a share of 0: field 27 fails
 invalid : PlaneGuidanceConfig
-invalid = configWith n0 n1 n1 (tecsWith n1 (tecsDefault .«min_airspeed_mps») n0)
+invalid = config_with n0 n1 n1 (tecs_with n1 tecs_default.min_airspeed_mps n0)
 
 -- a least airspeed of 1 m/s
 unfoldable pub nimble : PlaneGuidanceConfig
-nimble = configWith n0 (default .«min_thrust») (default .«max_thrust») (tecsWith n1 n1 (tecsDefault .«underspeed_share»))
+nimble = config_with n0 default.min_thrust default.max_thrust (tecs_with n1 n1 tecs_default.underspeed_share)
 
 -- a speed weight of 0
 weightless : PlaneGuidanceConfig
 weightless =
-    configWith n0 (default .«min_thrust») (default .«max_thrust») (tecsWith n0 (tecsDefault .«min_airspeed_mps») (tecsDefault .«underspeed_share»))
+    config_with n0 default.min_thrust default.max_thrust (tecs_with n0 tecs_default.min_airspeed_mps tecs_default.underspeed_share)
 
 -- ---- calls: at rest at the origin, time step 1
 
-abbrev pub at-rest : OptionF32 → VehicleState
-at-rest airspeed = record {
-  «position_m» = record { x = n0; y = n0; z = n0 };
-  «velocity_mps» = record { x = n0; y = n0; z = n0 };
-  «roll_rad» = n0;
-  «airspeed_mps» = airspeed;
+abbrev pub at_rest : OptionF32 → VehicleState
+at_rest airspeed = record {
+  position_m = record { x = n0; y = n0; z = n0 };
+  velocity_mps = record { x = n0; y = n0; z = n0 };
+  roll_rad = n0;
+  airspeed_mps = airspeed;
 }
 
 -- to a point at this altitude, with this cruise speed and airspeed
 abbrev pub to : Float → Float → OptionF32 → Call
 to altitude cruise airspeed =
     guide n1 Regime.Plane (Input.Waypoint (record {
-      «position_m» = record { x = n0; y = n0 };
-      «velocity_mps» = Leg.None;
-      «altitude_m» = altitude;
-      «cruise_speed_mps» = cruise;
-    })) (at-rest airspeed) None
+      position_m = record { x = n0; y = n0 };
+      velocity_mps = Leg.None;
+      altitude_m = altitude;
+      cruise_speed_mps = cruise;
+    })) (at_rest airspeed) None
 
 -- one metre up without an airspeed: a fallback, whose integral grows by 1
 abbrev pub fall : Call
@@ -209,7 +209,7 @@ abbrev held : Call
 held = to n1 (f32 0x41a00000) (Some (f32 0x7f800000))  -- 20, infinity
 
 abbrev pub attitude : Float → Call
-attitude dt = guide dt Regime.Plane (Input.Attitude (record { throttle = n0; roll = n0; pitch = n0 })) (at-rest None) None
+attitude dt = guide dt Regime.Plane (Input.Attitude (record { throttle = n0; roll = n0; pitch = n0 })) (at_rest None) None
 
 abbrev centred : Call
 centred = attitude n1
@@ -222,19 +222,19 @@ unheard = attitude n0
 abbrev steady : Float → Float → Float → Call
 steady cruise airspeed cap =
     guide n1 Regime.Plane (Input.Waypoint (record {
-      «position_m» = record { x = n0; y = n0 };
-      «velocity_mps» = Leg.None;
-      «altitude_m» = n0;
-      «cruise_speed_mps» = cruise;
-    })) (at-rest (Some airspeed)) (Some cap)
+      position_m = record { x = n0; y = n0 };
+      velocity_mps = Leg.None;
+      altitude_m = n0;
+      cruise_speed_mps = cruise;
+    })) (at_rest (Some airspeed)) (Some cap)
 
 -- at 5 m/s: with the defaults below 0.9 · 10, so that underspeed is set
 abbrev pub slow : Call
 slow = steady (f32 0x40a00000) (f32 0x40a00000) n1
 
 -- the same, refused with 3
-abbrev pub slow-refused : Call
-slow-refused = steady (f32 0x40a00000) (f32 0x40a00000) (neg n1)
+abbrev pub slow_refused : Call
+slow_refused = steady (f32 0x40a00000) (f32 0x40a00000) (neg n1)
 
 -- at 9.5 m/s: with the defaults neither below 0.9 · 10 nor from 10 up
 abbrev pub middle : Call
@@ -246,33 +246,33 @@ always before k refused = refused || holds k
 
 -- a set-configuration ends the pair of fallback and hold
 forgets : Bool → Call → Bool → Bool
-forgets before (guide dt regime input s cap) r = fellBack before (guide dt regime input s cap) r
-forgets before prime r = fellBack before prime r
-forgets before (setConfig c) r = false
-forgets before takeBack r = fellBack before takeBack r
+forgets before (guide dt regime input s cap) r = fell_back before (guide dt regime input s cap) r
+forgets before prime r = fell_back before prime r
+forgets before (set_config c) r = false
+forgets before take_back r = fell_back before take_back r
 
-isAttitude : Call → Bool
-isAttitude (guide dt regime (Input.Attitude k) s cap) = true
-isAttitude (guide dt regime (Input.Rate k) s cap) = false
-isAttitude (guide dt regime (Input.Waypoint w) s cap) = false
-isAttitude (guide dt regime (Input.AbsoluteAttitude k) s cap) = false
-isAttitude (guide dt regime Input.Land s cap) = false
-isAttitude (guide dt regime (Input.AbsoluteRate k) s cap) = false
-isAttitude prime = false
-isAttitude (setConfig c) = false
-isAttitude takeBack = false
+is_attitude : Call → Bool
+is_attitude (guide dt regime (Input.Attitude k) s cap) = true
+is_attitude (guide dt regime (Input.Rate k) s cap) = false
+is_attitude (guide dt regime (Input.Waypoint w) s cap) = false
+is_attitude (guide dt regime (Input.AbsoluteAttitude k) s cap) = false
+is_attitude (guide dt regime Input.Land s cap) = false
+is_attitude (guide dt regime (Input.AbsoluteRate k) s cap) = false
+is_attitude prime = false
+is_attitude (set_config c) = false
+is_attitude take_back = false
 
-attitudesToo : Bool → Call → Bool → Bool
-attitudesToo before k r = struck before k r || isAttitude k
+attitudes_too : Bool → Call → Bool → Bool
+attitudes_too before k r = struck before k r || is_attitude k
 
-after-fallback : List Call
-after-fallback = fall ∷ held ∷ fall ∷ []
+after_fallback : List Call
+after_fallback = fall ∷ held ∷ fall ∷ []
 
 between : List Call
-between = fall ∷ setConfig default ∷ held ∷ fall ∷ []
+between = fall ∷ set_config default ∷ held ∷ fall ∷ []
 
-attitude-between : List Call
-attitude-between = fall ∷ centred ∷ fall ∷ []
+attitude_between : List Call
+attitude_between = fall ∷ centred ∷ fall ∷ []
 
 -- ---- the plain limit, -max_pitch_down_rad itself, which a fallback can pass by one rounding
 
@@ -281,68 +281,68 @@ second [] = n0
 second (x ∷ []) = n0
 second (x ∷ (y ∷ ys)) = y
 
-pitchOf : Reply → Float
-pitchOf (answered a) = second (answerValues a)
-pitchOf done = n0
-pitchOf (field n) = n0
-pitchOf (back n) = n0
+pitch_of : Reply → Float
+pitch_of (answered a) = second (answer_values a)
+pitch_of done = n0
+pitch_of (field n) = n0
+pitch_of (back n) = n0
 
 -- 100 metres down
-withinPlainLimit : Bool
-withinPlainLimit = le (neg (trimmed .«max_pitch_down_rad»)) (pitchOf (perform (fresh trimmed) (to (f32 0xc2c80000) n0 None) .reply))  -- -100
+within_plain_limit : Bool
+within_plain_limit = le (neg trimmed.max_pitch_down_rad) (pitch_of (perform (fresh trimmed) (to (f32 0xc2c80000) n0 None)).reply)  -- -100
 
 -- ---- "the last accepted guide or prime call", with "accepted" left out
-forgetsAccepted : Bool → Call → Bool → Bool
-forgetsAccepted before k refused = fellBack before k false
+forgets_accepted : Bool → Call → Bool → Bool
+forgets_accepted before k refused = fell_back before k false
 
-unheard-between : List Call
-unheard-between = fall ∷ unheard ∷ held ∷ fall ∷ []
+unheard_between : List Call
+unheard_between = fall ∷ unheard ∷ held ∷ fall ∷ []
 
 -- ---- the fresh start: after which calls, and what the fresh guidance is made with
-besideFresh : (Call → Bool → Bool) → (PlaneGuidance → PlaneGuidance) → PlaneGuidance → List Call → Bool
-besideFresh starts make g [] = true
-besideFresh starts make g (k ∷ ks) =
+beside_fresh : (Call → Bool → Bool) → (PlaneGuidance → PlaneGuidance) → PlaneGuidance → List Call → Bool
+beside_fresh starts make g [] = true
+beside_fresh starts make g (k ∷ ks) =
     let o = perform g k in
-    (not (starts k (refused (o .reply))) || sameReplies (replies (o .next) ks) (replies (make (o .next)) ks)) && besideFresh starts make (o .next) ks
+    (not (starts k (refused o.reply)) || same_replies (replies o.next ks) (replies (make o.next) ks)) && beside_fresh starts make o.next ks
 
-ofThatMoment : PlaneGuidance → PlaneGuidance
-ofThatMoment g = freshWith (settingsOf g)
+of_that_moment : PlaneGuidance → PlaneGuidance
+of_that_moment g = fresh_with (settings_of g)
 
 -- "accepted" left out
-startsRefused : Call → Bool → Bool
-startsRefused k refused = startsFresh k false
+starts_refused : Call → Bool → Bool
+starts_refused k refused = starts_fresh k false
 
 -- a set-configuration too
-startsConfigured : Call → Bool → Bool
-startsConfigured (guide dt regime input s cap) r = startsFresh (guide dt regime input s cap) r
-startsConfigured prime r = startsFresh prime r
-startsConfigured (setConfig c) r = not r
-startsConfigured takeBack r = startsFresh takeBack r
+starts_configured : Call → Bool → Bool
+starts_configured (guide dt regime input s cap) r = starts_fresh (guide dt regime input s cap) r
+starts_configured prime r = starts_fresh prime r
+starts_configured (set_config c) r = not r
+starts_configured take_back r = starts_fresh take_back r
 
 -- with nothing kept
-withoutFormer : PlaneGuidance → PlaneGuidance
-withoutFormer g = fresh (g .config)
+without_former : PlaneGuidance → PlaneGuidance
+without_former g = fresh g.config
 
-primed-between : List Call
-primed-between = setConfig trimmed ∷ prime ∷ takeBack ∷ fall ∷ []
+primed_between : List Call
+primed_between = set_config trimmed ∷ prime ∷ take_back ∷ fall ∷ []
 
 -- the configuration that the list began with
-ofTheStart : PlaneGuidance → PlaneGuidance
-ofTheStart g = fresh default
+of_the_start : PlaneGuidance → PlaneGuidance
+of_the_start g = fresh default
 
-unheard-after : List Call
-unheard-after = fall ∷ unheard ∷ fall ∷ []
+unheard_after : List Call
+unheard_after = fall ∷ unheard ∷ fall ∷ []
 
-configured-after : List Call
-configured-after = fall ∷ setConfig default ∷ fall ∷ []
+configured_after : List Call
+configured_after = fall ∷ set_config default ∷ fall ∷ []
 
-primed-after : List Call
-primed-after = setConfig trimmed ∷ prime ∷ fall ∷ []
+primed_after : List Call
+primed_after = set_config trimmed ∷ prime ∷ fall ∷ []
 
 -- ---- the configuration in force and underspeed: thrust in its span, and at the top where underspeed stands
-thrustObeys : InForce → Float → Bool
-thrustObeys i thrust =
-    le (i .config .«min_thrust») thrust && le thrust (Plane.topThrust (i .config)) && (not (i .underspeed) || Ieee.eq thrust (Plane.topThrust (i .config)))
+thrust_obeys : InForce → Float → Bool
+thrust_obeys i thrust =
+    le i.config.min_thrust thrust && le thrust (Plane.top_thrust i.config) && (not i.underspeed || Ieee.eq thrust (Plane.top_thrust i.config))
 
 third : List Float → Float
 third [] = n0
@@ -350,81 +350,81 @@ third (x ∷ []) = n0
 third (x ∷ y ∷ []) = n0
 third (x ∷ (y ∷ (z ∷ zs))) = z
 
-replyObeys : InForce → Reply → Bool
-replyObeys i (answered (Refused n)) = true
-replyObeys i (answered (Commanded s)) = true
-replyObeys i (answered (Waypoint a)) = thrustObeys i (third (answerValues (Waypoint a)))
-replyObeys i done = true
-replyObeys i (field n) = true
-replyObeys i (back n) = true
+reply_obeys : InForce → Reply → Bool
+reply_obeys i (answered (Refused n)) = true
+reply_obeys i (answered (Commanded s)) = true
+reply_obeys i (answered (Waypoint a)) = thrust_obeys i (third (answer_values (Waypoint a)))
+reply_obeys i done = true
+reply_obeys i (field n) = true
+reply_obeys i (back n) = true
 
-obeysBy : (InForce → Call → Bool → InForce) → InForce → List Call → List Reply → Bool
-obeysBy next i [] rs = true
-obeysBy next i (k ∷ ks) [] = true
-obeysBy next i (k ∷ ks) (r ∷ rs) = let j = next i k (refused r) in replyObeys j r && obeysBy next j ks rs
+obeys_by : (InForce → Call → Bool → InForce) → InForce → List Call → List Reply → Bool
+obeys_by next i [] rs = true
+obeys_by next i (k ∷ ks) [] = true
+obeys_by next i (k ∷ ks) (r ∷ rs) = let j = next i k (refused r) in reply_obeys j r && obeys_by next j ks rs
 
 obeys : (InForce → Call → Bool → InForce) → List Call → Bool
-obeys next ks = obeysBy next (atStart default) ks (replies (fresh default) ks)
+obeys next ks = obeys_by next (at_start default) ks (replies (fresh default) ks)
 
 exactly : InForce → Call → Bool → InForce
-exactly i k refused = inForceAfter i k refused
+exactly i k refused = in_force_after i k refused
 
 -- "accepted" left out: a refused set-configuration comes into force, a refused step sets underspeed
-evenRefused : InForce → Call → Bool → InForce
-evenRefused i k refused = inForceAfter i k false
+even_refused : InForce → Call → Bool → InForce
+even_refused i k refused = in_force_after i k false
 
 -- the configuration that the list began with
-fromTheStart : InForce → Call → Bool → InForce
-fromTheStart i k refused =
-    let j : InForce = record { config = default; former = i .former; underspeed = i .underspeed } in
-    record { config = default; former = i .former; underspeed = inForceAfter j k refused .underspeed }
+from_the_start : InForce → Call → Bool → InForce
+from_the_start i k refused =
+    let j : InForce = record { config = default; former = i.former; underspeed = i.underspeed } in
+    record { config = default; former = i.former; underspeed = (in_force_after j k refused).underspeed }
 
 -- a prime keeps underspeed
-primeKeeps : InForce → Call → Bool → InForce
-primeKeeps i (guide dt regime input s cap) r = inForceAfter i (guide dt regime input s cap) r
-primeKeeps i prime r = i
-primeKeeps i (setConfig c) r = inForceAfter i (setConfig c) r
-primeKeeps i takeBack r = inForceAfter i takeBack r
+prime_keeps : InForce → Call → Bool → InForce
+prime_keeps i (guide dt regime input s cap) r = in_force_after i (guide dt regime input s cap) r
+prime_keeps i prime r = i
+prime_keeps i (set_config c) r = in_force_after i (set_config c) r
+prime_keeps i take_back r = in_force_after i take_back r
 
 -- a fallback keeps underspeed
-fallbackKeeps : InForce → Call → Bool → InForce
-fallbackKeeps i (guide dt regime input s cap) r = cond (lawIs isFallback dt input s) i (inForceAfter i (guide dt regime input s cap) r)
-fallbackKeeps i prime r = inForceAfter i prime r
-fallbackKeeps i (setConfig c) r = inForceAfter i (setConfig c) r
-fallbackKeeps i takeBack r = inForceAfter i takeBack r
+fallback_keeps : InForce → Call → Bool → InForce
+fallback_keeps i (guide dt regime input s cap) r = cond (law_is is_fallback dt input s) i (in_force_after i (guide dt regime input s cap) r)
+fallback_keeps i prime r = in_force_after i prime r
+fallback_keeps i (set_config c) r = in_force_after i (set_config c) r
+fallback_keeps i take_back r = in_force_after i take_back r
 
 -- a taking back keeps the configuration in force
-backKeeps : InForce → Call → Bool → InForce
-backKeeps i (guide dt regime input s cap) r = inForceAfter i (guide dt regime input s cap) r
-backKeeps i prime r = inForceAfter i prime r
-backKeeps i (setConfig c) r = inForceAfter i (setConfig c) r
-backKeeps i takeBack r = i
+back_keeps : InForce → Call → Bool → InForce
+back_keeps i (guide dt regime input s cap) r = in_force_after i (guide dt regime input s cap) r
+back_keeps i prime r = in_force_after i prime r
+back_keeps i (set_config c) r = in_force_after i (set_config c) r
+back_keeps i take_back r = i
 
-weak-taken-back : List Call
-weak-taken-back = setConfig weak ∷ takeBack ∷ fall ∷ []
+weak_taken_back : List Call
+weak_taken_back = set_config weak ∷ take_back ∷ fall ∷ []
 
-refused-setting : List Call
-refused-setting = setConfig invalid ∷ fall ∷ []
+refused_setting : List Call
+refused_setting = set_config invalid ∷ fall ∷ []
 
 weaker : List Call
-weaker = setConfig weak ∷ fall ∷ []
+weaker = set_config weak ∷ fall ∷ []
 
-unfoldable pub refused-slow : List Call
-refused-slow = slow-refused ∷ middle ∷ []
+unfoldable pub refused_slow : List Call
+refused_slow = slow_refused ∷ middle ∷ []
 
-nimble-slow : List Call
-nimble-slow = setConfig nimble ∷ slow ∷ []
+nimble_slow : List Call
+nimble_slow = set_config nimble ∷ slow ∷ []
 
-slow-primed : List Call
-slow-primed = slow ∷ middle ∷ prime ∷ middle ∷ []
+slow_primed : List Call
+slow_primed = slow ∷ middle ∷ prime ∷ middle ∷ []
 
-slow-fallen : List Call
-slow-fallen = slow ∷ middle ∷ fall ∷ middle ∷ []
+slow_fallen : List Call
+slow_fallen = slow ∷ middle ∷ fall ∷ middle ∷ []
 
 -- ---- a change and its taking back: `rest` gets the same replies with both calls and with neither
-undoneBy : List Call → PlaneGuidanceConfig → List Call → List Call → Bool
-undoneBy before d between rest =
-    sameReplies (replies (after (fresh default) (before ++ (setConfig d ∷ (between ++ (takeBack ∷ []))))) rest)
+undone_by : List Call → PlaneGuidanceConfig → List Call → List Call → Bool
+undone_by before d between rest =
+    same_replies (replies (after (fresh default) (before ++ (set_config d ∷ (between ++ (take_back ∷ []))))) rest)
     (replies (after (fresh default) (before ++ between)) rest)
 
 -- cruise speed 20 at this airspeed
@@ -439,89 +439,89 @@ rushing = cruising (f32 0x7149f2ca)
 abbrev level : Call
 level = cruising (f32 0x41700000)
 
-pitchBits : List Call → Call → ℕ
-pitchBits ks k = toBits binary32 (pitchOf (perform (after (fresh default) ks) k .reply))
+pitch_bits : List Call → Call → ℕ
+pitch_bits ks k = to_bits binary32 (pitch_of (perform (after (fresh default) ks) k).reply)
 
-takingBack : List Bool
-takingBack =
+taking_back : List Bool
+taking_back =
     -- primes and refused changes between
-    undoneBy [] nimble (prime ∷ setConfig invalid ∷ []) (slow ∷ middle ∷ []) ∷
+    undone_by [] nimble (prime ∷ set_config invalid ∷ []) (slow ∷ middle ∷ []) ∷
     -- an accepted guide call between
-    undoneBy [] nimble (slow ∷ []) (middle ∷ []) ∷
+    undone_by [] nimble (slow ∷ []) (middle ∷ []) ∷
     -- a refused one between, which the former setting accepts
-    undoneBy [] weightless (rushing ∷ []) (level ∷ []) ∷
+    undone_by [] weightless (rushing ∷ []) (level ∷ []) ∷
     -- up to the next taking back, and past it
-    undoneBy (setConfig trimmed ∷ []) weak [] (fall ∷ []) ∷
-    undoneBy (setConfig trimmed ∷ []) weak [] (takeBack ∷ []) ∷
-    sameReplies (replies (after (fresh default) (setConfig trimmed ∷ setConfig weak ∷ takeBack ∷ takeBack ∷ [])) (fall ∷ []))
-    (replies (after (fresh default) (setConfig trimmed ∷ takeBack ∷ [])) (fall ∷ [])) ∷
+    undone_by (set_config trimmed ∷ []) weak [] (fall ∷ []) ∷
+    undone_by (set_config trimmed ∷ []) weak [] (take_back ∷ []) ∷
+    same_replies (replies (after (fresh default) (set_config trimmed ∷ set_config weak ∷ take_back ∷ take_back ∷ [])) (fall ∷ []))
+    (replies (after (fresh default) (set_config trimmed ∷ take_back ∷ [])) (fall ∷ [])) ∷
     []
 
 -- the pitch after the refused call between, and without the pair
 pitches : List ℕ
-pitches = pitchBits (setConfig weightless ∷ rushing ∷ takeBack ∷ []) level ∷ pitchBits (rushing ∷ []) level ∷ []
+pitches = pitch_bits (set_config weightless ∷ rushing ∷ take_back ∷ []) level ∷ pitch_bits (rushing ∷ []) level ∷ []
 
 striking : List Bool
 striking =
-    leavesNoTrace struck fellBack after-fallback ∷
-    leavesNoTrace always fellBack after-fallback ∷
-    leavesNoTrace struck fellBack between ∷
-    leavesNoTrace struck forgets between ∷
-    leavesNoTrace struck fellBack attitude-between ∷
-    leavesNoTrace attitudesToo fellBack attitude-between ∷
-    leavesNoTrace struck fellBack unheard-between ∷
-    leavesNoTrace struck forgetsAccepted unheard-between ∷
-    withinPlainLimit ∷
+    leaves_no_trace struck fell_back after_fallback ∷
+    leaves_no_trace always fell_back after_fallback ∷
+    leaves_no_trace struck fell_back between ∷
+    leaves_no_trace struck forgets between ∷
+    leaves_no_trace struck fell_back attitude_between ∷
+    leaves_no_trace attitudes_too fell_back attitude_between ∷
+    leaves_no_trace struck fell_back unheard_between ∷
+    leaves_no_trace struck forgets_accepted unheard_between ∷
+    within_plain_limit ∷
     []
 
-freshStarts : List Bool
-freshStarts =
-    besideFresh startsFresh ofThatMoment (fresh default) unheard-after ∷
-    besideFresh startsRefused ofThatMoment (fresh default) unheard-after ∷
-    besideFresh startsFresh ofThatMoment (fresh default) configured-after ∷
-    besideFresh startsConfigured ofThatMoment (fresh default) configured-after ∷
-    besideFresh startsFresh ofThatMoment (fresh default) primed-after ∷
-    besideFresh startsFresh ofTheStart (fresh default) primed-after ∷
-    besideFresh startsFresh ofThatMoment (fresh default) primed-between ∷
-    besideFresh startsFresh withoutFormer (fresh default) primed-between ∷
+fresh_starts : List Bool
+fresh_starts =
+    beside_fresh starts_fresh of_that_moment (fresh default) unheard_after ∷
+    beside_fresh starts_refused of_that_moment (fresh default) unheard_after ∷
+    beside_fresh starts_fresh of_that_moment (fresh default) configured_after ∷
+    beside_fresh starts_configured of_that_moment (fresh default) configured_after ∷
+    beside_fresh starts_fresh of_that_moment (fresh default) primed_after ∷
+    beside_fresh starts_fresh of_the_start (fresh default) primed_after ∷
+    beside_fresh starts_fresh of_that_moment (fresh default) primed_between ∷
+    beside_fresh starts_fresh without_former (fresh default) primed_between ∷
     []
 
-inForce : List Bool
-inForce =
-    obeys exactly refused-setting ∷
-    obeys evenRefused refused-setting ∷
+in_force : List Bool
+in_force =
+    obeys exactly refused_setting ∷
+    obeys even_refused refused_setting ∷
     obeys exactly weaker ∷
-    obeys fromTheStart weaker ∷
-    obeys exactly refused-slow ∷
-    obeys evenRefused refused-slow ∷
-    obeys exactly nimble-slow ∷
-    obeys fromTheStart nimble-slow ∷
-    obeys exactly slow-primed ∷
-    obeys primeKeeps slow-primed ∷
-    obeys exactly slow-fallen ∷
-    obeys fallbackKeeps slow-fallen ∷
-    obeys exactly weak-taken-back ∷
-    obeys backKeeps weak-taken-back ∷
+    obeys from_the_start weaker ∷
+    obeys exactly refused_slow ∷
+    obeys even_refused refused_slow ∷
+    obeys exactly nimble_slow ∷
+    obeys from_the_start nimble_slow ∷
+    obeys exactly slow_primed ∷
+    obeys prime_keeps slow_primed ∷
+    obeys exactly slow_fallen ∷
+    obeys fallback_keeps slow_fallen ∷
+    obeys exactly weak_taken_back ∷
+    obeys back_keeps weak_taken_back ∷
     []
 
 computed :
     (striking ≡ true ∷ false ∷ true ∷ false ∷ true ∷ false ∷ true ∷ false ∷ false ∷ [])
-    × (freshStarts ≡ true ∷ false ∷ true ∷ false ∷ true ∷ false ∷ true ∷ false ∷ [])
-    × (inForce ≡ true ∷ false ∷ true ∷ false ∷ true ∷ false ∷ true ∷ false ∷ true ∷ false ∷ true ∷ false ∷ true ∷ false ∷ [])
-    × (takingBack ≡ true ∷ false ∷ false ∷ true ∷ false ∷ false ∷ [])
+    × (fresh_starts ≡ true ∷ false ∷ true ∷ false ∷ true ∷ false ∷ true ∷ false ∷ [])
+    × (in_force ≡ true ∷ false ∷ true ∷ false ∷ true ∷ false ∷ true ∷ false ∷ true ∷ false ∷ true ∷ false ∷ true ∷ false ∷ [])
+    × (taking_back ≡ true ∷ false ∷ false ∷ true ∷ false ∷ false ∷ [])
     × (pitches ≡ 0xbd57f532 ∷ 0xbedf66f3 ∷ [])
-unfolding striking freshStarts inForce takingBack pitches undoneBy pitchBits withoutFormer primed-between backKeeps weak-taken-back weightless after
-    Plane.noFormer Plane.restored Plane.takenBack leavesNoTrace strikesBy sameReplies same bitsOf bits always forgets forgetsAccepted isAttitude
-    attitudesToo after-fallback between attitude-between unheard-between unheard-after configured-after primed-after refused-setting weaker
-    refused-slow nimble-slow slow-primed slow-fallen besideFresh ofThatMoment ofTheStart startsRefused startsConfigured thrustObeys third
-    replyObeys obeysBy obeys exactly evenRefused fromTheStart primeKeeps fallbackKeeps tecsWith configWith trimmed weak invalid nimble second
-    pitchOf withinPlainLimit underspeedAt perform replies refusals unmarked fresh tecsDefault default firstFailing validate limitOrZero
-    clampSymmetric saturateSymmetric saturateUnit saturateThrottle lagged allFinite atLeastZero validAirspeed noCourse idle crossTrack loiterAccel finiteLeg
-    lateralAccel bankForAccel piPinned piFinite piStep reset updateUnderspeed clampAirspeed seedDemand previousDemand slewedHeight
-    slewedAirspeed nextDemand seedFilter previousFilter nextFilter energiesOf energies turnRate feedforward balancedThrust thrust
-    pitchIntegral pitch allInputsFinite hold energyStep least greatest clamp finite size rootOf norm normalise sine folded cosineOfFolded
-    cosine arctangent Plane.cleared Plane.primed Plane.withConfig Plane.configured Plane.sticks Plane.lateralLaw Plane.onEnergyPath
-    Plane.inputs Plane.verticalLaw Plane.topThrust Plane.limitsOf Plane.rollOf Plane.crossTrackOf Plane.heightError Plane.fallback Plane.vertical Plane.allFinite
-    Plane.commanded Plane.waypoint Plane.obeyed Plane.guided toBits ofBits le isNan Ieee.add Ieee.sub Ieee.mul Ieee.div Ieee.rem Ieee.lt
+unfolding striking fresh_starts in_force taking_back pitches undone_by pitch_bits without_former primed_between back_keeps weak_taken_back weightless after
+    Plane.no_former Plane.restored Plane.taken_back leaves_no_trace strikes_by same_replies same bits_of bits always forgets forgets_accepted is_attitude
+    attitudes_too after_fallback between attitude_between unheard_between unheard_after configured_after primed_after refused_setting weaker
+    refused_slow nimble_slow slow_primed slow_fallen beside_fresh of_that_moment of_the_start starts_refused starts_configured thrust_obeys third
+    reply_obeys obeys_by obeys exactly even_refused from_the_start prime_keeps fallback_keeps tecs_with config_with trimmed weak invalid nimble second
+    pitch_of within_plain_limit underspeed_at perform replies refusals unmarked fresh tecs_default default first_failing validate limit_or_zero
+    clamp_symmetric saturate_symmetric saturate_unit saturate_throttle lagged all_finite at_least_zero valid_airspeed no_course idle cross_track loiter_accel finite_leg
+    lateral_accel bank_for_accel pi_pinned pi_finite pi_step reset update_underspeed clamp_airspeed seed_demand previous_demand slewed_height
+    slewed_airspeed next_demand seed_filter previous_filter next_filter energies_of energies turn_rate feedforward balanced_thrust thrust
+    pitch_integral pitch all_inputs_finite hold energy_step least greatest clamp finite size root_of norm normalise sine folded cosine_of_folded
+    cosine arctangent Plane.cleared Plane.primed Plane.with_config Plane.configured Plane.sticks Plane.lateral_law Plane.on_energy_path
+    Plane.inputs Plane.vertical_law Plane.top_thrust Plane.limits_of Plane.roll_of Plane.cross_track_of Plane.height_error Plane.fallback Plane.vertical Plane.all_finite
+    Plane.commanded Plane.waypoint Plane.obeyed Plane.guided to_bits of_bits le is_nan Ieee.add Ieee.sub Ieee.mul Ieee.div Ieee.rem Ieee.lt
     Ieee.eq Ieee.ne Ieee.neg Ieee.round
 computed = (refl, refl, refl, refl, refl)

@@ -1,24 +1,20 @@
 -- Lists of calls, for demand 3: what one call does, a run, which calls are struck. Definitions only.
-use Prim.Native.Nat.{ℕ}
-use mathlib.Core.Bool.{Bool, true, false, cond, not, _&&_, _||_}
-use mathlib.Core.List.{List, [], _∷_}
-use lib.Dec.{eqb}
-use lib.Ieee.{Float}
-use Rattle·laws.specs.declared.config.PlaneGuidanceConfig.{PlaneGuidanceConfig}
-use Rattle·laws.specs.declared.types.OptionF32.{OptionF32}
-use Rattle·laws.specs.declared.types.ControlInput.{ControlInput}
-use Rattle·laws.specs.declared.types.ControlInput.the-variants as Input
-use Rattle·laws.specs.declared.types.FlightRegime.{FlightRegime}
-use Rattle·laws.specs.declared.types.VehicleState.{VehicleState}
-use Rattle·guidance.specs.Plane.{fresh, guided, primed, configured, takenBack, verticalLaw, isWaypoint, refusalNumber}
-use Rattle·guidance.specs.declared.plane.Former.{Former}
-use Rattle·guidance.specs.declared.plane.PlaneGuidance.{PlaneGuidance}
-use Rattle·guidance.specs.declared.plane.VerticalLaw.{VerticalLaw}
-use Rattle·guidance.specs.declared.plane.VerticalLaw.the-variants.{Energy, Hold, Fallback}
-use Rattle·guidance.specs.declared.plane.Answer.{Answer}
-use Rattle·guidance.specs.declared.plane.Guided.{Guided}
-use Rattle·guidance.specs.declared.plane.Configured.{Configured}
-use Rattle·guidance.specs.declared.plane.TakenBack.{TakenBack}
+use Rattle.std.specs.Prelude.{ℕ, Bool, true, false, cond, not, ◌&&◌, ◌||◌, List, [], ◌∷◌, eqb, Float}
+use Rattle.laws.specs.declared.config.PlaneGuidanceConfig.{PlaneGuidanceConfig}
+use Rattle.laws.specs.declared.types.OptionF32.{OptionF32}
+use Rattle.laws.specs.declared.types.ControlInput.{ControlInput}
+use Rattle.laws.specs.declared.types.ControlInput.TheVariants as Input
+use Rattle.laws.specs.declared.types.FlightRegime.{FlightRegime}
+use Rattle.laws.specs.declared.types.VehicleState.{VehicleState}
+use Rattle.guidance.specs.Plane.{fresh, guided, primed, configured, taken_back, vertical_law, is_waypoint, refusal_number}
+use Rattle.guidance.specs.declared.plane.Former.{Former}
+use Rattle.guidance.specs.declared.plane.PlaneGuidance.{PlaneGuidance}
+use Rattle.guidance.specs.declared.plane.VerticalLaw.{VerticalLaw}
+use Rattle.guidance.specs.declared.plane.VerticalLaw.TheVariants.{Energy, Hold, Fallback}
+use Rattle.guidance.specs.declared.plane.Answer.{Answer}
+use Rattle.guidance.specs.declared.plane.Guided.{Guided}
+use Rattle.guidance.specs.declared.plane.Configured.{Configured}
+use Rattle.guidance.specs.declared.plane.TakenBack.{TakenBack}
 
 -- ---- one call
 
@@ -26,8 +22,8 @@ use Rattle·guidance.specs.declared.plane.TakenBack.{TakenBack}
 pub data Call : Type 0 where
   guide : Float → FlightRegime → ControlInput → VehicleState → OptionF32 → Call
   prime : Call
-  setConfig : PlaneGuidanceConfig → Call
-  takeBack : Call
+  set_config : PlaneGuidanceConfig → Call
+  take_back : Call
 
 -- what the caller gets: a guide call's answer; nothing; 0 or the failing field; 0 or 14 of a taking back
 pub data Reply : Type 0 where
@@ -40,25 +36,25 @@ pub record Outcome : Type 0 where
   pub reply : Reply
   pub next : PlaneGuidance
 
-abbrev pub answeredBy : Guided → Outcome
-answeredBy o = record { reply = answered (o .answer); next = o .guidance }
+abbrev pub answered_by : Guided → Outcome
+answered_by o = record { reply = answered o.answer; next = o.guidance }
 
-abbrev pub configuredBy : Configured → Outcome
-configuredBy o = record { reply = field (o .field); next = o .guidance }
+abbrev pub configured_by : Configured → Outcome
+configured_by o = record { reply = field o.field; next = o.guidance }
 
-abbrev pub takenBackBy : TakenBack → Outcome
-takenBackBy o = record { reply = back (o .refusal); next = o .guidance }
+abbrev pub taken_back_by : TakenBack → Outcome
+taken_back_by o = record { reply = back o.refusal; next = o.guidance }
 
 -- what the contracts of guide_capped, prime, set_config and take_back say
 unfoldable pub perform : PlaneGuidance → Call → Outcome
-perform g (guide dt regime input s cap) = answeredBy (guided g dt regime input s cap)
+perform g (guide dt regime input s cap) = answered_by (guided g dt regime input s cap)
 perform g prime = record { reply = done; next = primed g }
-perform g (setConfig c) = configuredBy (configured g c)
-perform g takeBack = takenBackBy (takenBack g)
+perform g (set_config c) = configured_by (configured g c)
+perform g take_back = taken_back_by (taken_back g)
 
 -- a refusal: 2, 3 or 4 of a guide call, 1 of a set-configuration, 14 of a taking back
 abbrev pub refused : Reply → Bool
-refused (answered a) = not (eqb (refusalNumber a) 0)
+refused (answered a) = not (eqb (refusal_number a) 0)
 refused done = false
 refused (field n) = not (eqb n 0)
 refused (back n) = not (eqb n 0)
@@ -67,11 +63,11 @@ refused (back n) = not (eqb n 0)
 
 unfoldable pub replies : PlaneGuidance → List Call → List Reply
 replies g [] = []
-replies g (k ∷ ks) = perform g k .reply ∷ replies (perform g k .next) ks
+replies g (k ∷ ks) = (perform g k).reply ∷ replies (perform g k).next ks
 
 unfoldable pub after : PlaneGuidance → List Call → PlaneGuidance
 after g [] = g
-after g (k ∷ ks) = after (perform g k .next) ks
+after g (k ∷ ks) = after (perform g k).next ks
 
 -- which calls were refused
 unfoldable pub refusals : List Reply → List Bool
@@ -80,46 +76,46 @@ refusals (r ∷ rs) = refused r ∷ refusals rs
 
 -- ---- energy step, hold and fallback: accepted waypoint calls, told apart by the call's own numbers
 
-abbrev pub isEnergy : VerticalLaw → Bool
-isEnergy Energy = true
-isEnergy Hold = false
-isEnergy Fallback = false
+abbrev pub is_energy : VerticalLaw → Bool
+is_energy Energy = true
+is_energy Hold = false
+is_energy Fallback = false
 
-abbrev pub isHold : VerticalLaw → Bool
-isHold Energy = false
-isHold Hold = true
-isHold Fallback = false
+abbrev pub is_hold : VerticalLaw → Bool
+is_hold Energy = false
+is_hold Hold = true
+is_hold Fallback = false
 
-abbrev pub isFallback : VerticalLaw → Bool
-isFallback Energy = false
-isFallback Hold = false
-isFallback Fallback = true
+abbrev pub is_fallback : VerticalLaw → Bool
+is_fallback Energy = false
+is_fallback Hold = false
+is_fallback Fallback = true
 
 -- a test of the vertical law of a waypoint; any other command fails it
-abbrev pub lawIs : (VerticalLaw → Bool) → Float → ControlInput → VehicleState → Bool
-lawIs test dt (Input.Attitude k) s = false
-lawIs test dt (Input.Rate k) s = false
-lawIs test dt (Input.Waypoint w) s = test (verticalLaw dt w s)
-lawIs test dt (Input.AbsoluteAttitude k) s = false
-lawIs test dt Input.Land s = false
-lawIs test dt (Input.AbsoluteRate k) s = false
+abbrev pub law_is : (VerticalLaw → Bool) → Float → ControlInput → VehicleState → Bool
+law_is test dt (Input.Attitude k) s = false
+law_is test dt (Input.Rate k) s = false
+law_is test dt (Input.Waypoint w) s = test (vertical_law dt w s)
+law_is test dt (Input.AbsoluteAttitude k) s = false
+law_is test dt Input.Land s = false
+law_is test dt (Input.AbsoluteRate k) s = false
 
 -- a hold
 abbrev pub holds : Call → Bool
-holds (guide dt regime input s cap) = lawIs isHold dt input s
+holds (guide dt regime input s cap) = law_is is_hold dt input s
 holds prime = false
-holds (setConfig c) = false
-holds takeBack = false
+holds (set_config c) = false
+holds take_back = false
 
 -- ---- striking: one step from left to right, with one Bool
 
 -- whether the last accepted guide or prime call was a fallback, after this call
-abbrev pub fellBack : Bool → Call → Bool → Bool
-fellBack before k true = before
-fellBack before (guide dt regime input s cap) false = lawIs isFallback dt input s
-fellBack before prime false = false
-fellBack before (setConfig c) false = before
-fellBack before takeBack false = before
+abbrev pub fell_back : Bool → Call → Bool → Bool
+fell_back before k true = before
+fell_back before (guide dt regime input s cap) false = law_is is_fallback dt input s
+fell_back before prime false = false
+fell_back before (set_config c) false = before
+fell_back before take_back false = before
 
 -- Struck: every refused call, and every hold unless the last accepted guide or prime call before it was a fallback.
 abbrev pub struck : Bool → Call → Bool → Bool
@@ -129,7 +125,7 @@ struck before k refused = refused || (holds k && not before)
 unfoldable pub strikes : Bool → List Call → List Bool → List Bool
 strikes before [] rs = []
 strikes before (k ∷ ks) [] = []
-strikes before (k ∷ ks) (r ∷ rs) = struck before k r ∷ strikes (fellBack before k r) ks rs
+strikes before (k ∷ ks) (r ∷ rs) = struck before k r ∷ strikes (fell_back before k r) ks rs
 
 -- what is not marked
 unfoldable pub unmarked : {A : Type 0} → List Bool → List A → List A
@@ -144,23 +140,23 @@ marks g ks = strikes false ks (refusals (replies g ks))
 -- ---- fresh start
 
 -- an accepted prime, or an accepted command other than a waypoint
-abbrev pub startsFresh : Call → Bool → Bool
-startsFresh k true = false
-startsFresh (guide dt regime input s cap) false = not (isWaypoint input)
-startsFresh prime false = true
-startsFresh (setConfig c) false = false
-startsFresh takeBack false = false
+abbrev pub starts_fresh : Call → Bool → Bool
+starts_fresh k true = false
+starts_fresh (guide dt regime input s cap) false = not (is_waypoint input)
+starts_fresh prime false = true
+starts_fresh (set_config c) false = false
+starts_fresh take_back false = false
 
 -- what a fresh start takes from the guidance: the configuration and the kept configuration of that moment
 pub record Settings : Type 0 where
   pub config : PlaneGuidanceConfig
   pub former : Former
 
-abbrev pub settingsOf : PlaneGuidance → Settings
-settingsOf g = record { config = g .config; former = g .former }
+abbrev pub settings_of : PlaneGuidance → Settings
+settings_of g = record { config = g.config; former = g.former }
 
 -- a fresh guidance with this configuration, and with this one kept
-abbrev pub freshWith : Settings → PlaneGuidance
-freshWith t =
-    let g = fresh (t .config) in
-    record { config = g .config; requested = g .requested; altitude = g .altitude; tecs = g .tecs; former = t .former }
+abbrev pub fresh_with : Settings → PlaneGuidance
+fresh_with t =
+    let g = fresh t.config in
+    record { config = g.config; requested = g.requested; altitude = g.altitude; tecs = g.tecs; former = t.former }

@@ -1,59 +1,58 @@
 -- Document 02, K5: straight back the plane turns right. At a tie the angle steered is FRAC_PI_2 to the right, the roll of a waypoint is
 -- never below 0, and it is above 0 for every valid configuration but for what is named here. Definitions only.
-use mathlib.Core.Path.{_≡_}
-use mathlib.Core.Bool.{Bool, true, false, cond, not, _||_}
-use lib.Dec.{T}
-use lib.Ieee as Ieee
-use lib.Ieee.{Float, nan, binary32, isNan, fits}
-use Rattle·arithmetic.specs.Constants.{_·ᶠ_, _/ᶠ_, n0, fracPi2}
-use Rattle·arithmetic.specs.Order.{finite}
-use Rattle·arithmetic.specs.Trigonometry.{sine}
-use Rattle·arithmetic.specs.Vector.{norm, cross, normalise}
-use Rattle·arithmetic.specs.declared.vector.Vec2.{Vec2}
-use Rattle·arithmetic.specs.declared.vector.Normalised.the-variants.{Parts}
-use Rattle·laws.specs.Config.{validate}
-use Rattle·laws.specs.Types.{gravity}
-use Rattle·laws.specs.Navigation.{leastLeg, leastOffset, difference, rightOf, noCourse, l1, capture, tie, steeredRad, finiteLeg}
-use Rattle·laws.specs.declared.config.PlaneGuidanceConfig.{PlaneGuidanceConfig}
-use Rattle·laws.specs.declared.types.OptionF32.{OptionF32}
-use Rattle·laws.specs.declared.types.OptionVec2.the-variants as Leg
-use Rattle·laws.specs.declared.types.ControlInput.the-variants as Input
-use Rattle·laws.specs.declared.types.FlightRegime.{FlightRegime}
-use Rattle·laws.specs.declared.types.Setpoint.{Setpoint}
-use Rattle·laws.specs.declared.types.Setpoint.the-variants as Set
-use Rattle·laws.specs.declared.types.WaypointCommand.{WaypointCommand}
-use Rattle·laws.specs.declared.types.VehicleState.{VehicleState}
-use Rattle·guidance.specs.Plane.{northEast, rollOf, guided}
-use Rattle·guidance.specs.declared.plane.PlaneGuidance.{PlaneGuidance}
-use Rattle·guidance.specs.declared.plane.Answer.{Answer}
-use Rattle·guidance.specs.declared.plane.Answer.the-variants.{Refused, Commanded, Waypoint}
+use Rattle.std.specs.Prelude.{◌≡◌, Bool, true, false, cond, not, ◌||◌, T, Float}
+use Rattle.std.specs.Float.Ieee as Ieee
+use Rattle.std.specs.Float.{nan, binary32}
+use Rattle.std.specs.Float.Ieee.{is_nan, fits}
+use Rattle.arithmetic.specs.Constants.{◌·ᶠ◌, ◌/ᶠ◌, n0, frac_pi2}
+use Rattle.arithmetic.specs.Order.{finite}
+use Rattle.arithmetic.specs.Trigonometry.{sine}
+use Rattle.arithmetic.specs.Vector.{norm, cross, normalise}
+use Rattle.arithmetic.specs.declared.vector.Vec2.{Vec2}
+use Rattle.arithmetic.specs.declared.vector.Normalised.TheVariants.{Parts}
+use Rattle.laws.specs.Config.{validate}
+use Rattle.laws.specs.Types.{gravity}
+use Rattle.laws.specs.Navigation.{least_leg, least_offset, difference, right_of, no_course, l1, capture, tie, steered_rad, finite_leg}
+use Rattle.laws.specs.declared.config.PlaneGuidanceConfig.{PlaneGuidanceConfig}
+use Rattle.laws.specs.declared.types.OptionF32.{OptionF32}
+use Rattle.laws.specs.declared.types.OptionVec2.TheVariants as Leg
+use Rattle.laws.specs.declared.types.ControlInput.TheVariants as Input
+use Rattle.laws.specs.declared.types.FlightRegime.{FlightRegime}
+use Rattle.laws.specs.declared.types.Setpoint.{Setpoint}
+use Rattle.laws.specs.declared.types.Setpoint.TheVariants as Set
+use Rattle.laws.specs.declared.types.WaypointCommand.{WaypointCommand}
+use Rattle.laws.specs.declared.types.VehicleState.{VehicleState}
+use Rattle.guidance.specs.Plane.{north_east, roll_of, guided}
+use Rattle.guidance.specs.declared.plane.PlaneGuidance.{PlaneGuidance}
+use Rattle.guidance.specs.declared.plane.Answer.{Answer}
+use Rattle.guidance.specs.declared.plane.Answer.TheVariants.{Refused, Commanded, Waypoint}
 
 -- ---- a tie
 
 abbrev pub position : VehicleState → Vec2
-position s = northEast (s .«position_m»)
+position s = north_east s.position_m
 
 abbrev pub velocity : VehicleState → Vec2
-velocity s = northEast (s .«velocity_mps»)
+velocity s = north_east s.velocity_mps
 
 -- on a leg, which is present and finite: it has a normalised direction, the ground speed is at least 1, and the velocity is straight
 -- back along the direction
 pub record TieOnLeg (w : WaypointCommand) (s : VehicleState) (direction : Vec2) : Type 0 where
   pub leg : Vec2
-  pub present : finiteLeg (w .«velocity_mps») ≡ Leg.Some leg
-  pub normalised : normalise leg leastLeg ≡ Parts direction
-  pub under-way : noCourse (norm (velocity s)) ≡ false
-  pub straight-back : tie direction (velocity s) ≡ true
+  pub present : finite_leg w.velocity_mps ≡ Leg.Some leg
+  pub normalised : normalise leg least_leg ≡ Parts direction
+  pub under_way : no_course (norm (velocity s)) ≡ false
+  pub straight_back : tie direction (velocity s) ≡ true
 
 -- on a loiter's tangent: there is no finite leg, the plane is more than 1e-3 off the centre, and the tangent's direction is a quarter turn
 -- to the right of the direction outward
 pub record TieOnTangent (w : WaypointCommand) (s : VehicleState) (direction : Vec2) : Type 0 where
   pub outward : Vec2
-  pub no-leg : finiteLeg (w .«velocity_mps») ≡ Leg.None
-  pub off-centre : normalise (difference (position s) (w .«position_m»)) leastOffset ≡ Parts outward
-  pub normalised : normalise (rightOf outward) leastLeg ≡ Parts direction
-  pub under-way : noCourse (norm (velocity s)) ≡ false
-  pub straight-back : tie direction (velocity s) ≡ true
+  pub no_leg : finite_leg w.velocity_mps ≡ Leg.None
+  pub off_centre : normalise (difference (position s) w.position_m) least_offset ≡ Parts outward
+  pub normalised : normalise (right_of outward) least_leg ≡ Parts direction
+  pub under_way : no_course (norm (velocity s)) ≡ false
+  pub straight_back : tie direction (velocity s) ≡ true
 
 -- ---- the angle steered
 
@@ -62,41 +61,41 @@ pub record TieOnTangent (w : WaypointCommand) (s : VehicleState) (direction : Ve
 abbrev pub SteersRight : Type 0
 SteersRight =
     (position velocity point direction : Vec2) (distance : Float) → tie direction velocity ≡ true →
-    steeredRad position velocity point direction distance
-    ≡ cond (isNan (capture (cross direction (difference position point)) distance)) nan fracPi2
+    steered_rad position velocity point direction distance
+    ≡ cond (is_nan (capture (cross direction (difference position point)) distance)) nan frac_pi2
 
 -- The capture angle is NaN exactly where the distance off the line over the L1 distance is.
 abbrev pub NoCapture : Type 0
-NoCapture = (crossTrack distance : Float) → isNan (capture crossTrack distance) ≡ isNan (crossTrack /ᶠ distance)
+NoCapture = (cross_track distance : Float) → is_nan (capture cross_track distance) ≡ is_nan (cross_track /ᶠ distance)
 
 -- ---- what leaves the roll a zero
 
 -- max_bank_rad is a zero
-abbrev pub noBank : PlaneGuidanceConfig → Bool
-noBank c = Ieee.eq (c .«max_bank_rad») n0
+abbrev pub no_bank : PlaneGuidanceConfig → Bool
+no_bank c = Ieee.eq c.max_bank_rad n0
 
 -- the angle back toward the leg
-abbrev pub captureAngle : PlaneGuidanceConfig → WaypointCommand → VehicleState → Vec2 → Float
-captureAngle c w s direction =
-    capture (cross direction (difference (position s) (w .«position_m»)))
-    (l1 (norm (velocity s)) (c .«l1_period_s») (c .«l1_damping») .«distance_m»)
+abbrev pub capture_angle : PlaneGuidanceConfig → WaypointCommand → VehicleState → Vec2 → Float
+capture_angle c w s direction =
+    capture (cross direction (difference (position s) w.position_m))
+    (l1 (norm (velocity s)) c.l1_period_s c.l1_damping).distance_m
 
 -- the acceleration of a quarter turn to the right
-abbrev pub quarterTurn : PlaneGuidanceConfig → VehicleState → Float
-quarterTurn c s =
+abbrev pub quarter_turn : PlaneGuidanceConfig → VehicleState → Float
+quarter_turn c s =
     let speed = norm (velocity s) in
-    let gains = l1 speed (c .«l1_period_s») (c .«l1_damping») in
-    gains .gain ·ᶠ speed ·ᶠ speed /ᶠ gains .«distance_m» ·ᶠ sine fracPi2
+    let gains = l1 speed c.l1_period_s c.l1_damping in
+    gains.gain ·ᶠ speed ·ᶠ speed /ᶠ gains.distance_m ·ᶠ sine frac_pi2
 
 -- On a leg: the capture angle is NaN, or the acceleration is not finite, which the law makes 0, or over gravity it rounds to 0.
-abbrev pub noTurn : PlaneGuidanceConfig → WaypointCommand → VehicleState → Vec2 → Bool
-noTurn c w s direction = isNan (captureAngle c w s direction) || not (finite (quarterTurn c s)) || Ieee.eq (quarterTurn c s /ᶠ gravity) n0
+abbrev pub no_turn : PlaneGuidanceConfig → WaypointCommand → VehicleState → Vec2 → Bool
+no_turn c w s direction = is_nan (capture_angle c w s direction) || not (finite (quarter_turn c s)) || Ieee.eq (quarter_turn c s /ᶠ gravity) n0
 
 -- ---- the claim
 
 -- the roll is a number that is not below 0, and above 0 exactly where nothing leaves it a zero
 pub record TurnsRight (roll : Float) (none : Bool) : Type 0 where
-  pub never-left : Ieee.le n0 roll ≡ true
+  pub never_left : Ieee.le n0 roll ≡ true
   pub right : Ieee.lt n0 roll ≡ not none
 
 abbrev pub SetpointTurnsRight : Setpoint → Bool → Type 0
@@ -107,24 +106,24 @@ SetpointTurnsRight (Set.PlaneRate roll pitch yaw thrust) none = ⊥
 abbrev pub AnswerTurnsRight : Answer → Bool → Type 0
 AnswerTurnsRight (Refused n) none = Unit {0}
 AnswerTurnsRight (Commanded t) none = ⊥
-AnswerTurnsRight (Waypoint a) none = SetpointTurnsRight (a .setpoint) none
+AnswerTurnsRight (Waypoint a) none = SetpointTurnsRight a.setpoint none
 
 -- the waypoint's roll by this configuration, and so the answer of every guidance that has it
 pub record RollsRight (c : PlaneGuidanceConfig) (w : WaypointCommand) (s : VehicleState) (none : Bool) : Type 0 where
-  pub roll : TurnsRight (rollOf c w s) none
+  pub roll : TurnsRight (roll_of c w s) none
   pub answer :
-      (g : PlaneGuidance) (dt : Float) (regime : FlightRegime) (cap : OptionF32) → g .config ≡ c →
-      AnswerTurnsRight (guided g dt regime (Input.Waypoint w) s cap .answer) none
+      (g : PlaneGuidance) (dt : Float) (regime : FlightRegime) (cap : OptionF32) → g.config ≡ c →
+      AnswerTurnsRight (guided g dt regime (Input.Waypoint w) s cap).answer none
 
 -- on a leg
 abbrev pub LegTurnsRight : Type 0
 LegTurnsRight =
     (c : PlaneGuidanceConfig) (w : WaypointCommand) (s : VehicleState) (direction : Vec2) → validate c ≡ 0 →
-    TieOnLeg w s direction → RollsRight c w s (noBank c || noTurn c w s direction)
+    TieOnLeg w s direction → RollsRight c w s (no_bank c || no_turn c w s direction)
 
 -- On a loiter's tangent max_bank_rad alone can leave it a zero: the circle's own acceleration is added, which does not round to 0 at a
 -- ground speed of at least 1 and a radius that is an f32.
 abbrev pub TangentTurnsRight : Type 0
 TangentTurnsRight =
     (c : PlaneGuidanceConfig) (w : WaypointCommand) (s : VehicleState) (direction : Vec2) → validate c ≡ 0 →
-    T (fits binary32 (c .«loiter_radius_m»)) → TieOnTangent w s direction → RollsRight c w s (noBank c)
+    T (fits binary32 c.loiter_radius_m) → TieOnTangent w s direction → RollsRight c w s (no_bank c)

@@ -1,1 +1,2 @@
 // Claims about lists of calls on a guidance: definitions and proofs, no code.
+#![tactic(auto)]

@@ -1,4 +1,4 @@
--- Document 02, K7. `code` has the code's own steps.
+-- Document 02, K7. `Code` has the code's own steps.
 pub mod Compaction
 pub mod Laws
-pub mod code
+pub mod Code

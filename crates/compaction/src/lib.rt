@@ -2,30 +2,24 @@
 //
 // Two passes. The first reads the recording to its end and touches nothing; where it finds a refusal, that is the answer.
 // The second carries the calls out one after another and moves the records that stay to the front.
+#![tactic(auto)]
+
+ghost use Rattle.std.specs.Prelude.{◌≡◌, ◌++◌, ◌≤◌, ◌+◌, ◌-◌, length, take, drop, replicate};
+ghost use Rattle.fields.specs.Bytes.{put_at};
+ghost use Rattle.calls.specs.Calls.{as_reply};
+ghost use Rattle.replay.specs.Recording.{ends, most_calls, read_calls, recording};
+ghost use Rattle.compaction.specs.Compaction as spec;
+ghost use Rattle.compaction.specs.Code.Steps as step;
+ghost use Rattle.compaction.specs.Code.Steps.{Moved, Closed};
+
 use calls::Reply;
-use guidance::plane::Answer;
-use guidance::plane::Created;
-use guidance::plane::PlaneGuidance;
-use guidance::plane::VerticalLaw;
-use records::call::ReadCall;
-use records::call::Skipped;
-use records::call::read_call;
-use records::call::skip_call;
-use records::config::ReadConfig;
-use records::config::read_config;
-ghost use mathlib.Core.Path.{_≡_};
-ghost use mathlib.Core.List.{_++_};
-ghost use Prim.Native.Nat.{_≤_, _+_, _-_};
-ghost use lib.ListN.{length, take, drop, replicate};
-ghost use Rattle·fields.specs.Bytes.{putAt};
-ghost use Rattle·calls.specs.Calls.{asReply};
-ghost use Rattle·replay.specs.Recording.{ends, mostCalls, readCalls, recording};
-ghost use Rattle·compaction·specs.specs.Compaction as spec;
-ghost use Rattle·compaction·specs.specs.code.Steps as step;
-ghost use Rattle·compaction·specs.specs.code.Steps.{Moved, Closed};
+use guidance::plane::{Answer, Created, PlaneGuidance, VerticalLaw};
+use records::call::{ReadCall, Skipped, read_call, skip_call};
+use records::config::{ReadConfig, read_config};
 
 // The new length; or what the desk program's text ends in: `config refused FIELD`, or `NUMBER stopped REFUSAL`, where
 // number 0 is the configuration.
+#[derive(Clone, Copy)]
 pub enum Compacted {
     Length(usize),
     Refused(u32),
@@ -36,18 +30,21 @@ pub enum Compacted {
 const MOST_CALLS: u32 = 4096;
 
 // Whether a call is struck, and whether the last accepted guide or prime call, after it, was a fallback.
+#[derive(Clone, Copy)]
 pub struct Judged {
     pub struck: bool,
     pub fell: bool,
 }
 
 // Where reading stopped: the number of the call that could not be read with its refusal, or 0 for the end.
+#[derive(Clone, Copy)]
 struct Scanned {
     number: u32,
     refusal: u32,
 }
 
 // What the first pass decides: the guidance to start with and the place of the first call, or the refusal.
+#[derive(Clone, Copy)]
 pub enum Decided {
     Sound {
         guidance: PlaneGuidance,
@@ -64,7 +61,7 @@ pub enum Decided {
 
 // Goes over the calls from a place on.
 fn scan(s: &[u8], from: usize) -> Scanned
-    ensures { λ r. ⌜ r ≡ step.scanned 1 (readCalls mostCalls (now (s .entry)) from) ⌝ }
+    ensures { result ≡ step.scanned 1 (read_calls most_calls s.now from) }
 {
     let mut at = from;
     let mut n: u32 = 1;
@@ -103,7 +100,7 @@ fn scan(s: &[u8], from: usize) -> Scanned
 
 // A configuration that passes, and the calls after it.
 fn decide_calls(s: &[u8], g: PlaneGuidance, next: usize) -> Decided
-    ensures { λ r. ⌜ r ≡ step.decidedCalls (now (s .entry)) g next ⌝ }
+    ensures { result ≡ step.decided_calls s.now g next }
 {
     let end = scan(s, next);
     if end.refusal == 0 {
@@ -117,7 +114,7 @@ fn decide_calls(s: &[u8], g: PlaneGuidance, next: usize) -> Decided
 }
 
 pub fn decide(s: &[u8]) -> Decided
-    ensures { λ r. ⌜ r ≡ step.decided (now (s .entry)) ⌝ }
+    ensures { result ≡ step.decided s.now }
 {
     let read = read_config(s, 0);
     match read {
@@ -138,7 +135,7 @@ pub fn decide(s: &[u8]) -> Decided
 // ---- the second pass
 
 fn judge_law(before: bool, law: VerticalLaw) -> Judged
-    ensures { λ r. ⌜ r ≡ step.judgedLaw before law ⌝ }
+    ensures { result ≡ step.judged_law before law }
 {
     match law {
         VerticalLaw::Energy => Judged {
@@ -157,7 +154,7 @@ fn judge_law(before: bool, law: VerticalLaw) -> Judged
 }
 
 fn judge_answer(before: bool, answer: Answer) -> Judged
-    ensures { λ r. ⌜ r ≡ step.judgedAnswer before answer ⌝ }
+    ensures { result ≡ step.judged_answer before answer }
 {
     match answer {
         Answer::Refused(number) => Judged {
@@ -177,7 +174,7 @@ fn judge_answer(before: bool, answer: Answer) -> Judged
 }
 
 pub fn judge(before: bool, reply: Reply) -> Judged
-    ensures { λ r. ⌜ r ≡ step.judged before (asReply reply) ⌝ }
+    ensures { result ≡ step.judged before (as_reply reply) }
 {
     match reply {
         Reply::Answered(answer) => judge_answer(before, answer),
@@ -190,8 +187,8 @@ pub fn judge(before: bool, reply: Reply) -> Judged
 
 // Moves bytes toward the front.
 fn shift(s: &mut [u8], to: usize, from: usize, size: usize)
-    requires { ⌜ (to ≤ from) × (from + size ≤ length (now s)) ⌝ }
-    ensures { λ _. ⌜ now (s .exit) ≡ putAt (now (s .entry)) to (take size (drop from (now (s .entry)))) ⌝ }
+    requires { (to ≤ from) × (from + size ≤ length s.old) }
+    ensures { s.new ≡ put_at s.old to (take size (drop from s.old)) }
 {
     let mut i: usize = 0;
     while i < size {
@@ -202,8 +199,8 @@ fn shift(s: &mut [u8], to: usize, from: usize, size: usize)
 
 // Moves a record that stays behind those before it, and answers the place after it.
 fn keep(s: &mut [u8], to: usize, from: usize, next: usize, struck: bool) -> usize
-    requires { ⌜ (to ≤ from) × (from ≤ next) × (next ≤ length (now s)) ⌝ }
-    ensures { λ r. ⌜ Moved struck to (take (next - from) (drop from (now (s .entry)))) (now (s .entry)) (now (s .exit)) r ⌝ }
+    requires { (to ≤ from) × (from ≤ next) × (next ≤ length s.old) }
+    ensures { Moved struck to (take (next - from) (drop from s.old)) s.old s.new result }
 {
     if struck {
         return to;
@@ -218,8 +215,8 @@ fn keep(s: &mut [u8], to: usize, from: usize, next: usize, struck: bool) -> usiz
 
 // Closes the gaps that struck calls leave, from the place of the first call on, and answers the place after the last record.
 fn close_gaps(s: &mut [u8], from: usize, fresh: PlaneGuidance) -> usize
-    requires { ⌜ (from ≤ length (now s)) × (readCalls mostCalls (now s) from .ending ≡ ends) ⌝ }
-    ensures { λ r. ⌜ Closed from fresh (now (s .entry)) (now (s .exit)) r ⌝ }
+    requires { (from ≤ length s.old) × ((read_calls most_calls s.old from).ending ≡ ends) }
+    ensures { Closed from fresh s.old s.new result }
 {
     let mut g = fresh;
     let mut at = from;
@@ -248,8 +245,8 @@ fn close_gaps(s: &mut [u8], from: usize, fresh: PlaneGuidance) -> usize
 }
 
 fn clear(s: &mut [u8], from: usize)
-    requires { ⌜ from ≤ length (now s) ⌝ }
-    ensures { λ _. ⌜ now (s .exit) ≡ take from (now (s .entry)) ++ replicate (length (now (s .entry)) - from) 0 ⌝ }
+    requires { from ≤ length s.old }
+    ensures { s.new ≡ take from s.old ++ replicate (length s.old - from) 0 }
 {
     let mut i = from;
     while i < s.len() {
@@ -260,7 +257,7 @@ fn clear(s: &mut [u8], from: usize)
 
 // Compacts a recording, the whole slice, inside its buffer.
 pub fn compact(s: &mut [u8]) -> Compacted
-    ensures { λ r. ⌜ (r ≡ spec.compacted (now (s .entry)) (recording (now (s .entry)))) × (now (s .exit) ≡ spec.bytesAfter (now (s .entry)) (recording (now (s .entry)))) ⌝ }
+    ensures { (result ≡ spec.compacted s.old (recording s.old)) × (s.new ≡ spec.bytes_after s.old (recording s.old)) }
 {
     let d = decide(s);
     match d {

@@ -1,18 +1,18 @@
 // A configuration as the bits of its 33 numbers, fields 1 to 33, as its record has them.
-use fields::numbers::bits;
-use fields::numbers::floats;
-use laws::config::PlaneGuidanceConfig;
-use laws::config::TecsConfig;
-use laws::config::default;
+#![tactic(auto)]
+
+ghost use Rattle.std.specs.Prelude.{◌≡◌};
+ghost use Rattle.laws.specs.Config.{default};
+ghost use Rattle.fields.specs.Numbers.{floats_of, bits_of};
+ghost use Rattle.config_numbers.specs.Numbers.{config_of, numbers_of};
+
+use fields::numbers::{bits, floats};
+use laws::config::{PlaneGuidanceConfig, TecsConfig, default};
 use laws::types::Vec3;
-ghost use mathlib.Core.Path.{_≡_};
-ghost use Rattle·laws.specs.Config.{default};
-ghost use Rattle·fields.specs.Numbers.{floatsOf, bitsOf};
-ghost use Rattle·config_numbers·specs.specs.Numbers.{configOf, numbersOf};
 
 // The energy law's numbers of the 33, fields 15 to 30.
 fn tecs_of(v: [f32; 33]) -> TecsConfig
-    ensures { λ r. ⌜ r ≡ configOf v .tecs ⌝ }
+    ensures { result ≡ (config_of v).tecs }
 {
     TecsConfig {
         time_constant_s: v[14],
@@ -36,7 +36,7 @@ fn tecs_of(v: [f32; 33]) -> TecsConfig
 
 // The configuration of 33 numbers.
 fn config_of(v: [f32; 33]) -> PlaneGuidanceConfig
-    ensures { λ r. ⌜ r ≡ configOf v ⌝ }
+    ensures { result ≡ config_of v }
 {
     let tecs = tecs_of(v);
     PlaneGuidanceConfig {
@@ -65,7 +65,7 @@ fn config_of(v: [f32; 33]) -> PlaneGuidanceConfig
 
 // The 33 numbers of a configuration.
 fn numbers_of(c: PlaneGuidanceConfig) -> [f32; 33]
-    ensures { λ r. ⌜ r ≡ numbersOf c ⌝ }
+    ensures { result ≡ numbers_of c }
 {
     [
         c.max_bank_rad,
@@ -106,7 +106,7 @@ fn numbers_of(c: PlaneGuidanceConfig) -> [f32; 33]
 
 // The bits of a configuration's 33 numbers.
 pub fn bits_of(c: PlaneGuidanceConfig) -> [u32; 33]
-    ensures { λ r. ⌜ r ≡ bitsOf (numbersOf c) ⌝ }
+    ensures { result ≡ bits_of (numbers_of c) }
 {
     let v = numbers_of(c);
     let mut b = [0u32; 33];
@@ -116,14 +116,14 @@ pub fn bits_of(c: PlaneGuidanceConfig) -> [u32; 33]
 
 // What missing fields mean.
 pub fn default_bits() -> [u32; 33]
-    ensures { λ r. ⌜ r ≡ bitsOf (numbersOf default) ⌝ }
+    ensures { result ≡ bits_of (numbers_of default) }
 {
     bits_of(default())
 }
 
 // The configuration of the bits of 33 numbers.
 pub fn config_of_bits(b: [u32; 33]) -> PlaneGuidanceConfig
-    ensures { λ r. ⌜ r ≡ configOf (floatsOf b) ⌝ }
+    ensures { result ≡ config_of (floats_of b) }
 {
     let mut v = [0.0f32; 33];
     floats(&b, &mut v);

@@ -1,26 +1,26 @@
 -- What is shown is the text of the whole input. Assumes nothing.
-use mathlib.Core.Path.{_≡_, refl, sym, ap, _∙_}
-use mathlib.Core.List.{List, [], _++_}
-use Prim.Native.Nat.{ℕ, _+_, _<_, _≤_}
+use mathlib.Core.Path.{◌≡◌, sym, ◌∙◌}
+use mathlib.Core.List.{List, []}
+use Prim.Native.Nat.{ℕ, ◌<◌, ◌≤◌}
 use native.Mathlib.Omega.{arith}
-use lib.ListN.{length, take, drop}
-use lib.Seq.{length-take-le, take-append-seam}
-use Rattle·fields.specs.Bytes.{putAt}
-use Rattle·replay.specs.Sizes.{decisive, textRoom}
-use Rattle·replay.specs.Text.{recordingText}
-use Rattle·replay.proofs.CallsLaw.{text-fits}
-use Rattle·replay.proofs.Cut.{text-read}
-use Rattle·lines.proofs.PutLaw.{put-long}
-use Rattle·desk·specs.specs.Shown.{Shown}
+use lib.ListN.{length, take}
+use lib.Seq.{length-take-le, take-append_seam}
+use Rattle.fields.specs.Bytes.{put_at}
+use Rattle.replay.specs.Sizes.{decisive, text_room}
+use Rattle.replay.specs.Text.{recording_text}
+use Rattle.replay.proofs.CallsLaw.{text_fits}
+use Rattle.replay.proofs.Cut.{text_read}
+use Rattle.lines.proofs.PutLaw.{put_long}
+use Rattle.desk.specs.Shown.{Shown}
 
-pub shown : (read out after : List ℕ) (n : ℕ) → textRoom ≤ length out → n ≡ length (recordingText read)
-    → after ≡ putAt out 0 (recordingText read) → Shown read after n
+pub shown : (read out after : List ℕ) (n : ℕ) → text_room ≤ length out → n ≡ length (recording_text read)
+    → after ≡ put_at out 0 (recording_text read) → Shown read after n
 shown read out after n room e p =
-    let front : take n after ≡ recordingText read = rw (p, e) (take-append-seam (recordingText read) _) in
-    let long : length after ≡ length out = rw p (put-long out 0 (recordingText read) (omega (arith, text-fits read))) in
-    let within : n ≤ length after = omega (arith, text-fits read) in
+    let front : take n after ≡ recording_text read = rw (p, e) (take-append_seam (recording_text read) _) in
+    let long : length after ≡ length out = rw p (put_long out 0 (recording_text read) (omega (arith, text_fits read))) in
+    let within : n ≤ length after = omega (arith, text_fits read) in
     record {
-      text = λ (rest : List ℕ) (h : length read < decisive → rest ≡ []). front ∙ sym (text-read read rest h);
+      text = λ (rest : List ℕ) (h : length read < decisive → rest ≡ []). front ∙ sym (text_read read rest h);
       within = within;
       part = sym (length-take-le n after within);
     }

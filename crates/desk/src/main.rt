@@ -2,46 +2,67 @@
 //
 // It reads to the end, or as far as anything that follows can no longer change the text. A read or a write that fails is
 // told by a line on standard error; a read that fails leaves standard output empty.
-use input::input_room;
-use input::read_input;
-ghost use mathlib.Core.Path.{_≡_};
-ghost use Prim.Native.Nat.{_≤_};
-ghost use lib.ListN.{length};
-ghost use Rattle·replay.specs.Sizes.{textRoom};
-ghost use Rattle·desk·specs.specs.Shown.{Shown};
+#![tactic(auto)]
+
+ghost use Rattle.std.specs.Prelude.{◌≡◌, ◌≤◌, length, OnOk, IfSome, IsErrOf};
+ghost use Rattle.std.specs.Io.KnownBytes.{Appends, Keeps};
+ghost use Rattle.replay.specs.Sizes.{text_room};
+ghost use Rattle.replay.specs.Text.{recording_text};
+ghost use Rattle.desk.specs.Shown.{Shown};
+
+use input::{input_room, read_from};
+use std::io::{Read, Write};
 
 // 4,097 lines of 80 bytes: room for every text.
 const TEXT_ROOM: usize = 4097 * 80;
 
-const STANDARD_OUTPUT: i32 = 1;
-
-const STANDARD_ERROR: i32 = 2;
+// What failed.
+#[derive(Clone, Copy)]
+enum Failure {
+    Read,
+    Write,
+}
 
 fn text_room() -> [u8; TEXT_ROOM]
-    ensures { λ r. ⌜ textRoom ≡ length r ⌝ }
+    ensures { text_room ≡ length result }
 {
     [0u8; TEXT_ROOM]
 }
 
 // The text of the input, of which these bytes were read.
 fn show(read: &[u8], out: &mut [u8]) -> usize
-    requires { ⌜ textRoom ≤ length (now out) ⌝ }
-    ensures { λ r. ⌜ Shown (now (read .entry)) (now (out .exit)) r ⌝ }
+    requires { text_room ≤ length out.old }
+    ensures { Shown read.now out.new result }
 {
     replay::print_text(read, out)
 }
 
-fn main() {
+// Writes the text of all that the reader has left.
+fn print<R: Read, W: Write>(reader: &mut R, writer: &mut W) -> Result<(), Failure>
+    ensures text { OnOk result (IfSome (R.remaining reader.old)
+        (λ input. Appends (W.contents writer.old) (W.contents writer.new) (recording_text input))) }
+    ensures unread { IsErrOf result Failure.Read → Keeps (W.contents writer.old) (W.contents writer.new) }
+{
     let mut bytes = input_room();
-    let got = read_input(&mut bytes);
+    let got = read_from(reader, &mut bytes);
     if got.failed {
-        io::write_all(STANDARD_ERROR, b"desk: standard input cannot be read\n");
-        return;
+        return Err(Failure::Read);
     }
     let size = got.size;
     let mut out = text_room();
     let n = show(&bytes[..size], &mut out);
-    if !io::write_all(STANDARD_OUTPUT, &out[..n]) {
-        io::write_all(STANDARD_ERROR, b"desk: standard output cannot be written\n");
+    match writer.write_all(&out[..n]) {
+        Ok(()) => Ok(()),
+        Err(_) => Err(Failure::Write),
     }
+}
+
+fn main(rt: HostRuntime) {
+    let done = print(&mut rt.reader(), &mut rt.stdout());
+    // A line that standard error does not take is lost.
+    let _ = match done {
+        Ok(()) => Ok(()),
+        Err(Failure::Read) => eprintln!(rt; "desk: standard input cannot be read"),
+        Err(Failure::Write) => eprintln!(rt; "desk: standard output cannot be written"),
+    };
 }

@@ -1,68 +1,68 @@
 -- The table of zeros and NaN, computed. Assumes nothing.
-use mathlib.Core.Path.{_≡_, refl}
-use mathlib.Core.List.{List, [], _∷_}
-use lib.Ieee.{nan, ofBits, toBits}
-use Rattle·fields.specs.Bytes.{numberAt, bytesOf}
-use Rattle·fields.specs.Fields.{sizeOf, valuesAt, mapOf, bodyOf, numberFields}
-use Rattle·fields.specs.Numbers.{floatsOf, bitsOf}
-use Rattle·records.specs.declared.call.ReadCall.the-variants.{Read}
-use Rattle·records.specs.Call.{
+use mathlib.Core.Path.{◌≡◌, refl}
+use mathlib.Core.List.{[], ◌∷◌}
+use lib.Ieee.{nan, of_bits, to_bits}
+use Rattle.fields.specs.Bytes.{number_at, bytes_of}
+use Rattle.fields.specs.Fields.{size_of, values_at, map_of, body_of, number_fields}
+use Rattle.fields.specs.Numbers.{floats_of, bits_of}
+use Rattle.records.specs.declared.call.ReadCall.TheVariants.{Read}
+use Rattle.records.specs.Call.{
   zero,
-  callFields,
+  call_fields,
   complete,
   unknown,
-  regimeOf,
-  callAt,
-  waypointAt,
-  stateAt,
-  legOf,
-  optionOf,
-  partsOf,
-  waypointParts,
-  valuesOf,
-  mapOfParts,
-  callRecord,
+  regime_of,
+  call_at,
+  waypoint_at,
+  state_at,
+  leg_of,
+  option_of,
+  parts_of,
+  waypoint_parts,
+  values_of,
+  map_of_parts,
+  call_record,
 }
-use Rattle·editions.specs.declared.Edition.the-variants.{First, Second}
-use Rattle·editions.specs.Edition.{flips, flipsStanding, readAs, recordAs}
-use Rattle·edition_laws·specs.specs.Cases.{Cases, atAltitude, minusZero}
+use Rattle.editions.specs.declared.Edition.TheVariants.{First, Second}
+use Rattle.editions.specs.Edition.{flips, flips_standing, read_as, record_as}
+use Rattle.edition_laws.specs.Cases.{Cases, at_altitude, minus_zero}
 
-plus-is : recordAs Second (atAltitude zero) ≡ 1 ∷ 0 ∷ 64 ∷ 0 ∷ 3 ∷ []
-unfolding recordAs callRecord partsOf waypointParts valuesOf mapOfParts mapOf bodyOf flips bytesOf callFields numberFields bitsOf toBits ofBits
-plus-is = refl
+plus_is : record_as Second (at_altitude zero) ≡ 1 ∷ 0 ∷ 64 ∷ 0 ∷ 3 ∷ []
+unfolding record_as call_record parts_of waypoint_parts values_of map_of_parts map_of body_of flips bytes_of call_fields number_fields bits_of to_bits of_bits
+plus_is = refl
 
-minus-is : recordAs Second (atAltitude minusZero) ≡ 1 ∷ 8 ∷ 64 ∷ 0 ∷ 3 ∷ 0 ∷ 0 ∷ 0 ∷ 0 ∷ []
-unfolding recordAs callRecord partsOf waypointParts valuesOf mapOfParts mapOf bodyOf flips bytesOf callFields numberFields bitsOf toBits ofBits
-minus-is = refl
+minus_is : record_as Second (at_altitude minus_zero) ≡ 1 ∷ 8 ∷ 64 ∷ 0 ∷ 3 ∷ 0 ∷ 0 ∷ 0 ∷ 0 ∷ []
+unfolding record_as call_record parts_of waypoint_parts values_of map_of_parts map_of body_of flips bytes_of call_fields number_fields bits_of to_bits of_bits
+minus_is = refl
 
-none-is : recordAs Second (atAltitude nan) ≡ 1 ∷ 8 ∷ 64 ∷ 0 ∷ 3 ∷ 0 ∷ 0 ∷ 192 ∷ 255 ∷ []
-unfolding recordAs callRecord partsOf waypointParts valuesOf mapOfParts mapOf bodyOf flips bytesOf callFields numberFields bitsOf toBits ofBits
-none-is = refl
+none_is : record_as Second (at_altitude nan) ≡ 1 ∷ 8 ∷ 64 ∷ 0 ∷ 3 ∷ 0 ∷ 0 ∷ 192 ∷ 255 ∷ []
+unfolding record_as call_record parts_of waypoint_parts values_of map_of_parts map_of body_of flips bytes_of call_fields number_fields bits_of to_bits of_bits
+none_is = refl
 
-first-minus-is : recordAs First (atAltitude minusZero) ≡ 1 ∷ 8 ∷ 0 ∷ 0 ∷ 3 ∷ 0 ∷ 0 ∷ 0 ∷ 128 ∷ []
-unfolding recordAs callRecord partsOf waypointParts valuesOf mapOfParts mapOf bodyOf flips bytesOf callFields numberFields bitsOf toBits ofBits
-first-minus-is = refl
+first_minus_is : record_as First (at_altitude minus_zero) ≡ 1 ∷ 8 ∷ 0 ∷ 0 ∷ 3 ∷ 0 ∷ 0 ∷ 0 ∷ 128 ∷ []
+unfolding record_as call_record parts_of waypoint_parts values_of map_of_parts map_of body_of flips bytes_of call_fields number_fields bits_of to_bits of_bits
+first_minus_is = refl
 
-stored-is : readAs Second (1 ∷ 8 ∷ 64 ∷ 0 ∷ 3 ∷ 0 ∷ 0 ∷ 0 ∷ 128 ∷ []) 0 ≡ Read (atAltitude zero) 9
-unfolding readAs complete unknown callFields numberFields sizeOf valuesAt flipsStanding numberAt regimeOf callAt waypointAt stateAt legOf optionOf floatsOf ofBits
-stored-is = refl
+stored_is : read_as Second (1 ∷ 8 ∷ 64 ∷ 0 ∷ 3 ∷ 0 ∷ 0 ∷ 0 ∷ 128 ∷ []) 0 ≡ Read (at_altitude zero) 9
+unfolding read_as complete unknown call_fields number_fields size_of values_at flips_standing number_at regime_of call_at waypoint_at state_at leg_of option_of floats_of of_bits
+stored_is = refl
 
-missing-is : readAs Second (1 ∷ 0 ∷ 64 ∷ 0 ∷ 3 ∷ []) 0 ≡ Read (atAltitude zero) 5
-unfolding readAs complete unknown callFields numberFields sizeOf valuesAt flipsStanding numberAt regimeOf callAt waypointAt stateAt legOf optionOf floatsOf ofBits
-missing-is = refl
+missing_is : read_as Second (1 ∷ 0 ∷ 64 ∷ 0 ∷ 3 ∷ []) 0 ≡ Read (at_altitude zero) 5
+unfolding read_as complete unknown call_fields number_fields size_of values_at flips_standing number_at regime_of call_at waypoint_at state_at leg_of option_of floats_of of_bits
+missing_is = refl
 
-payload-is : readAs Second (1 ∷ 8 ∷ 64 ∷ 0 ∷ 3 ∷ 1 ∷ 0 ∷ 128 ∷ 127 ∷ []) 0 ≡ Read (atAltitude nan) 9
-unfolding readAs complete unknown callFields numberFields sizeOf valuesAt flipsStanding numberAt regimeOf callAt waypointAt stateAt legOf optionOf floatsOf ofBits
-payload-is = refl
+payload_is : read_as Second (1 ∷ 8 ∷ 64 ∷ 0 ∷ 3 ∷ 1 ∷ 0 ∷ 128 ∷ 127 ∷ []) 0 ≡ Read (at_altitude nan) 9
+unfolding read_as complete unknown call_fields number_fields size_of values_at flips_standing number_at regime_of call_at waypoint_at state_at leg_of option_of floats_of of_bits
+payload_is = refl
 
 pub cases : Cases
 cases =
     record {
-      plus = plus-is;
-      minus = minus-is;
-      none = none-is;
-      first-minus = first-minus-is;
-      stored = stored-is;
-      missing = missing-is;
-      payload = payload-is;
+      plus = plus_is;
+      minus = minus_is;
+      none = none_is;
+      first_minus = first_minus_is;
+      stored = stored_is;
+      missing = missing_is;
+      payload = payload_is;
     }

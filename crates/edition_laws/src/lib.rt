@@ -1,1 +1,2 @@
 // Laws of the two editions of the call record: definitions and proofs, no code.
+#![tactic(auto)]

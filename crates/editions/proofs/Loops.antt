@@ -1,149 +1,149 @@
 -- What holds in each turn of `turn` and of `copied`. Assumes nothing.
-use mathlib.Core.Path.{_≡_, refl, sym, ap, subst, _∙_}
-use mathlib.Core.Bool.{Bool, true, false, cond, not, _||_}
-use mathlib.Core.List.{List, [], _∷_, _++_, append-assoc}
-use Prim.Native.Nat.{ℕ, zero, suc, _+_, _-_, _/_, _%_, _<_, _≤_}
+use mathlib.Core.Path.{◌≡◌, refl, sym, ap, subst, ◌∙◌}
+use mathlib.Core.Bool.{Bool, true, false, not, ◌||◌}
+use mathlib.Core.List.{List, [], ◌∷◌, ◌++◌, append_assoc}
+use Prim.Native.Nat.{ℕ, zero, suc, ◌+◌, ◌-◌, ◌/◌, ◌%◌, ◌<◌, ◌≤◌}
 use native.Mathlib.Omega.{arith}
 use native.Mathlib.Numerals.{add-one}
-use borrow.Author.Tests.{eq-eqb, ne-eqb, le-ltb}
-use borrow.Rule.Slice.PartMut.{putMid}
-use lib.Dec.{T, eqb, ltb, lit<}
-use lib.ListN.{length, set, getD, take, drop, replicate, length-append, length-drop, length-set, take-append-drop, drop-of-length-le}
-use lib.Seq.{take-at, drop-at, take-suc, take-suc-set, drop-cons, drop-drop, getD-drop, length-take-le}
-use Rattle·fields.specs.Bytes.{numberAt, bytesOf}
-use Rattle·fields.specs.Fields.{Field, stands, sizeOf, numberFields}
-use Rattle·fields.proofs.FieldLaw.{rest-is, rest-back}
-use Rattle·records.specs.Call.{callFields}
-use Rattle·records.proofs.CallLaw.{fields-are, fields-long}
-use Rattle·editions·specs.specs.Edition.{isDown, flip}
-use Rattle·editions·specs.specs.code.Steps.{bytesAt, turnedField, turned}
-use Rattle·editions·proofs.proofs.FlipLaw.{field-long}
+use borrow.Author.Tests.{eq-eqb, ne_eqb, le-ltb}
+use borrow.Rule.Slice.PartMut.{put_mid}
+use lib.Dec.{T, eqb}
+use lib.ListN.{length, set, get_or, take, drop, replicate, length-append, length-drop, length-set, take-append-drop, drop_of_length-le}
+use lib.Seq.{take_at, drop_at, take-suc, take-suc-set, drop-cons, drop-drop, get_or-drop, length-take-le}
+use Rattle.fields.specs.Bytes.{number_at, bytes_of}
+use Rattle.fields.specs.Fields.{Field, size_of, number_fields}
+use Rattle.fields.proofs.FieldLaw.{rest_is, rest_back}
+use Rattle.records.specs.Call.{call_fields}
+use Rattle.records.proofs.CallLaw.{fields_are, fields_long}
+use Rattle.editions.specs.Edition.{is_down, flip}
+use Rattle.editions.specs.Code.Steps.{bytes_at, turned_field, turned}
+use Rattle.editions.proofs.FlipLaw.{field_long}
 
 -- ---- the fields of a call record by their bits
 
-abbrev noField : Field
-noField = record { bytes = 0; missing = 0 }
+abbrev no_field : Field
+no_field = record { bytes = 0; missing = 0 }
 
-number-bytes : (ds : List ℕ) (k : ℕ) → k < length ds → getD (numberFields ds) k noField .bytes ≡ 4
-unfolding numberFields
-number-bytes [] k h = absurd (omega arith)
-number-bytes (d ∷ ds) zero h = refl
-number-bytes (d ∷ ds) (suc k) h = number-bytes ds k (omega arith)
+number_bytes_lem : (ds : List ℕ) (k : ℕ) → k < length ds → (get_or (number_fields ds) k no_field).bytes ≡ 4
+unfolding number_fields
+number_bytes_lem [] k h = absurd (omega arith)
+number_bytes_lem (d ∷ ds) zero h = refl
+number_bytes_lem (d ∷ ds) (suc k) h = number_bytes_lem ds k (omega arith)
 
-bytes-are : (i : ℕ) → i < 22 → getD callFields i noField .bytes ≡ bytesAt i
-bytes-are zero h = rw fields-are
-bytes-are (suc zero) h = rw fields-are
-bytes-are (suc (suc k)) h = rw (fields-are, le-ltb (suc (suc k)) 2 (omega arith)) (number-bytes (replicate 20 0) k (omega arith))
+bytes_are : (i : ℕ) → i < 22 → (get_or call_fields i no_field).bytes ≡ bytes_at i
+bytes_are zero h = rw fields_are
+bytes_are (suc zero) h = rw fields_are
+bytes_are (suc (suc k)) h = rw (fields_are, le-ltb (suc (suc k)) 2 (omega arith)) (number_bytes_lem (replicate 20 0) k (omega arith))
 
 -- a field with down positive has four bytes
-pub down-four : (i : ℕ) → isDown i ≡ true → bytesAt i ≡ 4
-down-four zero e = absurd (subst T (sym e) tt)
-down-four (suc zero) e = absurd (subst T (sym e) tt)
-down-four (suc (suc k)) e = rw (le-ltb (suc (suc k)) 2 (omega arith))
+pub down_four : (i : ℕ) → is_down i ≡ true → bytes_at i ≡ 4
+down_four zero e = absurd (subst T (sym e) tt)
+down_four (suc zero) e = absurd (subst T (sym e) tt)
+down_four (suc (suc k)) e = rw (le-ltb (suc (suc k)) 2 (omega arith))
 
-is-wide : (i : ℕ) → T (not (isDown i) || eqb (bytesAt i) 4)
-is-wide i = go (isDown i) refl
+is_wide : (i : ℕ) → T (not (is_down i) || eqb (bytes_at i) 4)
+is_wide i = go (is_down i) refl
   where
-    go : (d : Bool) → isDown i ≡ d → T (not d || eqb (bytesAt i) 4)
-    go true e = rw (eq-eqb (bytesAt i) 4 (down-four i e)) tt
+    go : (d : Bool) → is_down i ≡ d → T (not d || eqb (bytes_at i) 4)
+    go true e = rw (eq-eqb (bytes_at i) 4 (down_four i e)) tt
     go false e = tt
 
 -- the fields from bit i on
 module _ (i : ℕ) (h : i < 22) where
-  from-bit : drop i callFields ≡ getD callFields i noField ∷ drop (suc i) callFields
-  from-bit = drop-cons callFields i noField (rw fields-long h)
+  from_bit : drop i call_fields ≡ get_or call_fields i no_field ∷ drop (suc i) call_fields
+  from_bit = drop-cons call_fields i no_field (rw fields_long h)
 
-  size-stands : (m : ℕ) → m % 2 ≡ 1 → sizeOf (drop i callFields) m ≡ bytesAt i + sizeOf (drop (i + 1) callFields) (m / 2)
-  unfolding sizeOf
-  size-stands m b = rw (from-bit, eq-eqb (m % 2) 1 b, bytes-are i h, add-one i)
+  size_stands : (m : ℕ) → m % 2 ≡ 1 → size_of (drop i call_fields) m ≡ bytes_at i + size_of (drop (i + 1) call_fields) (m / 2)
+  unfolding size_of
+  size_stands m b = rw (from_bit, eq-eqb (m % 2) 1 b, bytes_are i h, add-one i)
 
-  size-skips : (m : ℕ) → (m % 2 ≡ 1 → ⊥) → sizeOf (drop i callFields) m ≡ sizeOf (drop (i + 1) callFields) (m / 2)
-  unfolding sizeOf
-  size-skips m b = rw (from-bit, ne-eqb (m % 2) 1 b, add-one i) (omega arith)
+  size_skips : (m : ℕ) → (m % 2 ≡ 1 → ⊥) → size_of (drop i call_fields) m ≡ size_of (drop (i + 1) call_fields) (m / 2)
+  unfolding size_of
+  size_skips m b = rw (from_bit, ne_eqb (m % 2) 1 b, add-one i) (omega arith)
 
-  turned-stands : (m : ℕ) (s : List ℕ) → m % 2 ≡ 1
-      → turned (drop i callFields) i m s ≡ turnedField i (bytesAt i) s ++ turned (drop (i + 1) callFields) (i + 1) (m / 2) (drop (bytesAt i) s)
+  turned_stands : (m : ℕ) (s : List ℕ) → m % 2 ≡ 1
+      → turned (drop i call_fields) i m s ≡ turned_field i (bytes_at i) s ++ turned (drop (i + 1) call_fields) (i + 1) (m / 2) (drop (bytes_at i) s)
   unfolding turned
-  turned-stands m s b = rw (from-bit, eq-eqb (m % 2) 1 b, bytes-are i h, add-one i)
+  turned_stands m s b = rw (from_bit, eq-eqb (m % 2) 1 b, bytes_are i h, add-one i)
 
-  turned-skips : (m : ℕ) (s : List ℕ) → (m % 2 ≡ 1 → ⊥) → turned (drop i callFields) i m s ≡ turned (drop (i + 1) callFields) (i + 1) (m / 2) s
+  turned_skips : (m : ℕ) (s : List ℕ) → (m % 2 ≡ 1 → ⊥) → turned (drop i call_fields) i m s ≡ turned (drop (i + 1) call_fields) (i + 1) (m / 2) s
   unfolding turned
-  turned-skips m s b = rw (from-bit, ne-eqb (m % 2) 1 b, add-one i)
+  turned_skips m s b = rw (from_bit, ne_eqb (m % 2) 1 b, add-one i)
 
-turned-none : (i m : ℕ) (s : List ℕ) → 22 ≤ i → turned (drop i callFields) i m s ≡ s
+turned_none : (i m : ℕ) (s : List ℕ) → 22 ≤ i → turned (drop i call_fields) i m s ≡ s
 unfolding turned
-turned-none i m s h = let e : drop i callFields ≡ [] = drop-of-length-le callFields {i = i} (rw fields-long h) in rw e
+turned_none i m s h = let e : drop i call_fields ≡ [] = drop_of_length-le call_fields {i = i} (rw fields_long h) in rw e
 
 -- ---- `turn_field`
 
-module _ (p : List ℕ) (at n : ℕ) (h : at + bytesAt n ≤ length p) where
-  pub down-room : isDown n ≡ true → 4 ≤ length (take (length p - at) (drop at p))
-  down-room d = rw (rest-is p at) (simp length-drop (omega (arith, down-four n d)))
+module _ (p : List ℕ) (at n : ℕ) (h : at + bytes_at n ≤ length p) where
+  pub down_room : is_down n ≡ true → 4 ≤ length (take (length p - at) (drop at p))
+  down_room d = rw (rest_is p at) (simp length-drop (omega (arith, down_four n d)))
 
-  pub field-turned : isDown n ≡ true → (q : List ℕ) → q ≡ bytesOf 4 (flip (numberAt 4 (take (length p - at) (drop at p)))) ++ drop 4 (take (length p - at) (drop at p))
-      → (putMid at (length p - at) p q ≡ take at p ++ (turnedField n (bytesAt n) (drop at p) ++ drop (at + bytesAt n) p)) × (at + 4 ≡ at + bytesAt n)
-  field-turned d q e = (
-    rest-back p q at (omega arith) ∙ rw (e, rest-is p at, down-four n d, d, drop-drop 4 at p),
-    omega (arith, down-four n d),
+  pub field_turned : is_down n ≡ true → (q : List ℕ) → q ≡ bytes_of 4 (flip (number_at 4 (take (length p - at) (drop at p)))) ++ drop 4 (take (length p - at) (drop at p))
+      → (put_mid at (length p - at) p q ≡ take at p ++ (turned_field n (bytes_at n) (drop at p) ++ drop (at + bytes_at n) p)) × (at + 4 ≡ at + bytes_at n)
+  field_turned d q e = (
+    rest_back p q at (omega arith) ∙ rw (e, rest_is p at, down_four n d, d, drop-drop 4 at p),
+    omega (arith, down_four n d),
   )
 
-  pub field-kept : isDown n ≡ false → (b : ℕ) → b ≡ bytesAt n
-      → (p ≡ take at p ++ (turnedField n (bytesAt n) (drop at p) ++ drop (at + bytesAt n) p)) × (at + b ≡ at + bytesAt n)
-  field-kept d b e = (sym (rw (d, ← drop-drop (bytesAt n) at p, take-append-drop (bytesAt n) (drop at p)) (take-append-drop at p)), rw e)
+  pub field_kept : is_down n ≡ false → (b : ℕ) → b ≡ bytes_at n
+      → (p ≡ take at p ++ (turned_field n (bytes_at n) (drop at p) ++ drop (at + bytes_at n) p)) × (at + b ≡ at + bytes_at n)
+  field_kept d b e = (sym (rw (d, ← drop-drop (bytes_at n) at p, take-append-drop (bytes_at n) (drop at p)) (take-append-drop at p)), rw e)
 
 -- ---- `turn`
 
 pub record Turning (p₀ : List ℕ) (map : ℕ) (p : List ℕ) (at m i : ℕ) : Type 0 where
   pub below : i ≤ 22
   pub long : length p ≡ length p₀
-  pub is : take at p ++ turned (drop i callFields) i m (drop at p) ≡ take 4 p₀ ++ turned callFields 0 map (drop 4 p₀)
-  pub place : at + sizeOf (drop i callFields) m ≡ 4 + sizeOf callFields map
-  pub room : 4 + sizeOf callFields map ≤ length p₀
+  pub is : take at p ++ turned (drop i call_fields) i m (drop at p) ≡ take 4 p₀ ++ turned call_fields 0 map (drop 4 p₀)
+  pub place : at + size_of (drop i call_fields) m ≡ 4 + size_of call_fields map
+  pub room : 4 + size_of call_fields map ≤ length p₀
 
-pub turn-starts : (p : List ℕ) (map : ℕ) → 4 + sizeOf callFields map ≤ length p → Turning p map p 4 map 0
-turn-starts p map h = record { below = omega arith; long = refl; is = refl; place = refl; room = h }
+pub turn_starts : (p : List ℕ) (map : ℕ) → 4 + size_of call_fields map ≤ length p → Turning p map p 4 map 0
+turn_starts p map h = record { below = omega arith; long = refl; is = refl; place = refl; room = h }
 
 module _ {p₀ : List ℕ} {map : ℕ} {p : List ℕ} {at m i : ℕ} (f : Turning p₀ map p at m i) where
-  pub turn-room : i < 22 → m % 2 ≡ 1 → at + bytesAt i ≤ length p
-  turn-room h b = omega (arith, f .place, f .room, f .long, size-stands i h m b)
+  pub turn_room : i < 22 → m % 2 ≡ 1 → at + bytes_at i ≤ length p
+  turn_room h b = omega (arith, f.place, f.room, f.long, size_stands i h m b)
 
-  pub turn-turn : i < 22 → m % 2 ≡ 1 → (q : List ℕ)
-      → q ≡ take at p ++ (turnedField i (bytesAt i) (drop at p) ++ drop (at + bytesAt i) p) → (next : ℕ)
-      → next ≡ at + bytesAt i
+  pub turn_turn : i < 22 → m % 2 ≡ 1 → (q : List ℕ)
+      → q ≡ take at p ++ (turned_field i (bytes_at i) (drop at p) ++ drop (at + bytes_at i) p) → (next : ℕ)
+      → next ≡ at + bytes_at i
       → Turning p₀ map q next (m / 2) (i + 1)
-  turn-turn h b q e next en =
-      let w = bytesAt i in
-      let room : at + w ≤ length p = turn-room h b in
-      let here = turnedField i w (drop at p) in
+  turn_turn h b q e next en =
+      let w = bytes_at i in
+      let room : at + w ≤ length p = turn_room h b in
+      let here = turned_field i w (drop at p) in
       let after : length (drop at p) ≡ length p - at = length-drop at p in
       let front : length (take at p) ≡ at = length-take-le at p (omega arith) in
-      let wide : length here ≡ w = field-long i w (drop at p) (is-wide i) (omega (arith, after)) in
+      let wide : length here ≡ w = field_long i w (drop at p) (is_wide i) (omega (arith, after)) in
       let head : length (take at p ++ here) ≡ next = length-append (take at p) here ∙ omega (arith, front, wide, en) in
-      let split : q ≡ (take at p ++ here) ++ drop (at + w) p = e ∙ sym (append-assoc (take at p) here (drop (at + w) p)) in
-      let first : take next q ≡ take at p ++ here = rw split (take-at (take at p ++ here) (drop (at + w) p) next head) in
-      let last : drop next q ≡ drop (at + w) p = rw split (drop-at (take at p ++ here) (drop (at + w) p) next head) in
+      let split : q ≡ (take at p ++ here) ++ drop (at + w) p = e ∙ sym (append_assoc (take at p) here (drop (at + w) p)) in
+      let first : take next q ≡ take at p ++ here = rw split (take_at (take at p ++ here) (drop (at + w) p) next head) in
+      let last : drop next q ≡ drop (at + w) p = rw split (drop_at (take at p ++ here) (drop (at + w) p) next head) in
       record {
         below = omega arith;
-        long = rw split (length-append (take at p ++ here) (drop (at + w) p) ∙ omega (arith, head, en, length-drop (at + w) p, f .long));
+        long = rw split (length-append (take at p ++ here) (drop (at + w) p) ∙ omega (arith, head, en, length-drop (at + w) p, f.long));
         is =
-            rw (first, last, append-assoc (take at p) here (turned (drop (i + 1) callFields) (i + 1) (m / 2) (drop (at + w) p)), ← drop-drop w at p)
-            (ap (λ (l : List ℕ). take at p ++ l) (sym (turned-stands i h m (drop at p) b)) ∙ f .is);
-        place = omega (arith, f .place, en, size-stands i h m b);
-        room = f .room;
+            rw (first, last, append_assoc (take at p) here (turned (drop (i + 1) call_fields) (i + 1) (m / 2) (drop (at + w) p)), ← drop-drop w at p)
+            (ap (λ (l : List ℕ). take at p ++ l) (sym (turned_stands i h m (drop at p) b)) ∙ f.is);
+        place = omega (arith, f.place, en, size_stands i h m b);
+        room = f.room;
       }
 
-  pub turn-skips : i < 22 → (m % 2 ≡ 1 → ⊥) → Turning p₀ map p at (m / 2) (i + 1)
-  turn-skips h b =
+  pub turn_skips : i < 22 → (m % 2 ≡ 1 → ⊥) → Turning p₀ map p at (m / 2) (i + 1)
+  turn_skips h b =
       record {
         below = omega arith;
-        long = f .long;
-        is = ap (λ (l : List ℕ). take at p ++ l) (sym (turned-skips i h m (drop at p) b)) ∙ f .is;
-        place = omega (arith, f .place, size-skips i h m b);
-        room = f .room;
+        long = f.long;
+        is = ap (λ (l : List ℕ). take at p ++ l) (sym (turned_skips i h m (drop at p) b)) ∙ f.is;
+        place = omega (arith, f.place, size_skips i h m b);
+        room = f.room;
       }
 
-  pub turn-done : 22 ≤ i → p ≡ take 4 p₀ ++ turned callFields 0 map (drop 4 p₀)
-  turn-done h = sym (rw (turned-none i m (drop at p) h) (take-append-drop at p)) ∙ f .is
+  pub turn_done : 22 ≤ i → p ≡ take 4 p₀ ++ turned call_fields 0 map (drop 4 p₀)
+  turn_done h = sym (rw (turned_none i m (drop at p) h) (take-append-drop at p)) ∙ f.is
 
 -- ---- `copied`
 
@@ -154,22 +154,22 @@ pub record Copying (s : List ℕ) (at size : ℕ) (r : List ℕ) (i : ℕ) : Typ
   pub room : at + size ≤ length s
   pub is : take i r ≡ take i (drop at s)
 
-pub copy-starts : (s : List ℕ) (at size : ℕ) (r : List ℕ) → length r ≡ 86 → size ≤ 86 → at + size ≤ length s → Copying s at size r 0
-copy-starts s at size r l f h = record { below = omega arith; long = l; fits = f; room = h; is = refl }
+pub copy_starts : (s : List ℕ) (at size : ℕ) (r : List ℕ) → length r ≡ 86 → size ≤ 86 → at + size ≤ length s → Copying s at size r 0
+copy_starts s at size r l f h = record { below = omega arith; long = l; fits = f; room = h; is = refl }
 
 module _ {s : List ℕ} {at size : ℕ} {r : List ℕ} {i : ℕ} (f : Copying s at size r i) where
-  pub copy-turn : i < size → Copying s at size (set r i (getD s (at + i) 0)) (i + 1)
-  copy-turn h =
-      let x = getD s (at + i) 0 in
+  pub copy_turn : i < size → Copying s at size (set r i (get_or s (at + i) 0)) (i + 1)
+  copy_turn h =
+      let x = get_or s (at + i) 0 in
       let more : take (suc i) (drop at s) ≡ take i (drop at s) ++ (x ∷ []) =
-      rw (take-suc (drop at s) i 0 (simp length-drop (omega (arith, f .room))), getD-drop at s i 0) in
+      rw (take-suc (drop at s) i 0 (simp length-drop (omega (arith, f.room))), get_or-drop at s i 0) in
       record {
         below = omega arith;
-        long = simp length-set (f .long);
-        fits = f .fits;
-        room = f .room;
-        is = rw (add-one i, take-suc-set r i x (omega (arith, f .long, f .fits)), f .is, more);
+        long = simp length-set f.long;
+        fits = f.fits;
+        room = f.room;
+        is = rw (add-one i, take-suc-set r i x (omega (arith, f.long, f.fits)), f.is, more);
       }
 
-  pub copy-done : size ≤ i → (take size r ≡ take size (drop at s)) × (length r ≡ 86)
-  copy-done h = let e : i ≡ size = omega (arith, f .below) in (rw e at (f .is), f .long)
+  pub copy_done : size ≤ i → (take size r ≡ take size (drop at s)) × (length r ≡ 86)
+  copy_done h = let e : i ≡ size = omega (arith, f.below) in (rw e at f.is, f.long)

@@ -1,3 +1,3 @@
 -- Document 02, K14: records with down positive.
 pub mod Edition
-pub mod code
+pub mod Code

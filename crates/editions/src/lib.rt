@@ -3,28 +3,23 @@
 //
 // The fields of both stand at the same places. So a record of one edition is spelled as the other by turning the sign bits of
 // the fields with down positive, in place, and the call reader and the call writer serve both.
-use fields::Written;
-use fields::bytes::read_number;
-use fields::bytes::write_number;
-use records::call::Call;
-use records::call::ReadCall;
-use records::call::fields_size;
-use records::call::is_complete;
-use records::call::read_call;
-use records::call_writer::write_call;
-ghost use mathlib.Core.Path.{_≡_};
-ghost use mathlib.Core.Bool.{true};
-ghost use mathlib.Core.List.{_++_};
-ghost use Prim.Native.Nat.{_≤_, _<_, _+_};
-ghost use lib.ListN.{length, take, drop};
-ghost use Rattle·fields.specs.Bytes.{numberAt, bytesOf};
-ghost use Rattle·fields.specs.Fields.{sizeOf};
-ghost use Rattle·fields.specs.Writing.{answerOf, bufferOf};
-ghost use Rattle·records.specs.Call.{callFields, complete};
-ghost use Rattle·editions·specs.specs.declared.Edition.the-variants.{Second};
-ghost use Rattle·editions·specs.specs.Edition as spec;
-ghost use Rattle·editions·specs.specs.code.Steps as step;
+#![tactic(auto)]
 
+ghost use Rattle.std.specs.Prelude.{◌≡◌, true, ◌++◌, ◌≤◌, ◌<◌, ◌+◌, length, take, drop};
+ghost use Rattle.fields.specs.Bytes.{number_at, bytes_of};
+ghost use Rattle.fields.specs.Fields.{size_of};
+ghost use Rattle.fields.specs.Writing.{answer_of, buffer_of};
+ghost use Rattle.records.specs.Call.{call_fields, complete};
+ghost use Rattle.editions.specs.declared.Edition.TheVariants.{Second};
+ghost use Rattle.editions.specs.Edition as spec;
+ghost use Rattle.editions.specs.Code.Steps as step;
+
+use fields::Written;
+use fields::bytes::{read_number, write_number};
+use records::call::{Call, ReadCall, fields_size, is_complete, read_call};
+use records::call_writer::write_call;
+
+#[derive(Clone, Copy)]
 pub enum Edition {
     First,
     Second,
@@ -32,6 +27,7 @@ pub enum Edition {
 
 // What a conversion answers: the place after the record that was read and the place after the one that was written, or the
 // refusal's number.
+#[derive(Clone, Copy)]
 pub enum Converted {
     Places { read: usize, written: usize },
     Refused(u8),
@@ -50,7 +46,7 @@ const FIELDS: usize = 22;
 
 // Whether the field of a bit has down positive in the second edition: altitude, position z, velocity z.
 fn is_down(n: usize) -> bool
-    ensures { λ r. ⌜ r ≡ spec.isDown n ⌝ }
+    ensures { result ≡ spec.is_down n }
 {
     if n == 11 {
         return true;
@@ -63,16 +59,16 @@ fn is_down(n: usize) -> bool
 
 // The byte count of the field of a bit.
 fn bytes_at(n: usize) -> usize
-    requires { ⌜ n < 22 ⌝ }
-    ensures { λ r. ⌜ r ≡ step.bytesAt n ⌝ }
+    requires { n < 22 }
+    ensures { result ≡ step.bytes_at n }
 {
     if n < 2 { 1 } else { 4 }
 }
 
 // Turns the sign bit of the number that the first four bytes spell.
 fn turn_number(part: &mut [u8])
-    requires { ⌜ 4 ≤ length (now part) ⌝ }
-    ensures { λ _. ⌜ now (part .exit) ≡ bytesOf 4 (spec.flip (numberAt 4 (now (part .entry)))) ++ drop 4 (now (part .entry)) ⌝ }
+    requires { 4 ≤ length part.old }
+    ensures { part.new ≡ bytes_of 4 (spec.flip (number_at 4 part.old)) ++ drop 4 part.old }
 {
     let number = read_number(part, 4);
     write_number(part, 4, (number + SIGN) % ALL);
@@ -80,8 +76,8 @@ fn turn_number(part: &mut [u8])
 
 // Turns a field that stands at a place, where it has down positive; the place after it.
 fn turn_field(part: &mut [u8], at: usize, n: usize) -> usize
-    requires { ⌜ (n < 22) × (at + step.bytesAt n ≤ length (now part)) ⌝ }
-    ensures { λ r. ⌜ (now (part .exit) ≡ take at (now (part .entry)) ++ (step.turnedField n (step.bytesAt n) (drop at (now (part .entry))) ++ drop (at + step.bytesAt n) (now (part .entry)))) × (r ≡ at + step.bytesAt n) ⌝ }
+    requires { (n < 22) × (at + step.bytes_at n ≤ length part.old) }
+    ensures { (part.new ≡ take at part.old ++ (step.turned_field n (step.bytes_at n) (drop at part.old) ++ drop (at + step.bytes_at n) part.old)) × (result ≡ at + step.bytes_at n) }
 {
     if is_down(n) {
         turn_number(&mut part[at..]);
@@ -92,8 +88,8 @@ fn turn_field(part: &mut [u8], at: usize, n: usize) -> usize
 
 // Turns the fields that stand in a map, of the record with which the bytes begin.
 fn turn(part: &mut [u8], map: u64)
-    requires { ⌜ 4 + sizeOf callFields map ≤ length (now part) ⌝ }
-    ensures { λ _. ⌜ now (part .exit) ≡ take 4 (now (part .entry)) ++ step.turned callFields 0 map (drop 4 (now (part .entry))) ⌝ }
+    requires { 4 + size_of call_fields map ≤ length part.old }
+    ensures { part.new ≡ take 4 part.old ++ step.turned call_fields 0 map (drop 4 part.old) }
 {
     let mut at: usize = 4;
     let mut m = map;
@@ -113,8 +109,8 @@ fn turn(part: &mut [u8], map: u64)
 
 // The first bytes from a place on, in a buffer of their own: a record has at most 86.
 fn copied(s: &[u8], at: usize, size: usize) -> [u8; 86]
-    requires { ⌜ (size ≤ 86) × (at + size ≤ length (now s)) ⌝ }
-    ensures { λ r. ⌜ (take size r ≡ take size (drop at (now (s .entry)))) × (length r ≡ 86) ⌝ }
+    requires { (size ≤ 86) × (at + size ≤ length s.now) }
+    ensures { (take size result ≡ take size (drop at s.now)) × (length result ≡ 86) }
 {
     let mut r = [0u8; 86];
     let mut i: usize = 0;
@@ -127,8 +123,8 @@ fn copied(s: &[u8], at: usize, size: usize) -> [u8; 86]
 
 // Reads a record of the second edition, map being its map without bit 22: its fields are turned, and the call reader reads them.
 fn read_second(s: &[u8], at: usize, map: u64) -> ReadCall
-    requires { ⌜ (at + 4 ≤ length (now s)) × (numberAt 4 (drop at (now s)) ≡ spec.mark + map) × (complete map ≡ true) ⌝ }
-    ensures { λ r. ⌜ r ≡ spec.readAs Second (now (s .entry)) at ⌝ }
+    requires { (at + 4 ≤ length s.now) × (number_at 4 (drop at s.now) ≡ spec.mark + map) × (complete map ≡ true) }
+    ensures { result ≡ spec.read_as Second s.now at }
 {
     let size = 4 + fields_size(map);
     if s.len() - at < size {
@@ -149,7 +145,7 @@ fn read_second(s: &[u8], at: usize, map: u64) -> ReadCall
 
 // Whether bit 22 stands in an edition's map.
 fn mark_of(edition: Edition) -> u64
-    ensures { λ r. ⌜ (r ≡ step.markOf edition) × (r ≤ 1) ⌝ }
+    ensures { (result ≡ step.mark_of edition) × (result ≤ 1) }
 {
     match edition {
         Edition::First => 0,
@@ -159,7 +155,7 @@ fn mark_of(edition: Edition) -> u64
 
 // Reads a record of an edition.
 pub fn read_as(s: &[u8], at: usize, edition: Edition) -> ReadCall
-    ensures { λ r. ⌜ r ≡ spec.readAs edition (now (s .entry)) at ⌝ }
+    ensures { result ≡ spec.read_as edition s.now at }
 {
     if s.len() < at {
         return ReadCall::Refused(5);
@@ -187,8 +183,8 @@ pub fn read_as(s: &[u8], at: usize, edition: Edition) -> ReadCall
 
 // Turns a record of the first edition into one of the second, in its place.
 fn turn_record(part: &mut [u8])
-    requires { ⌜ 4 + sizeOf callFields (numberAt 4 (now part)) ≤ length (now part) ⌝ }
-    ensures { λ _. ⌜ now (part .exit) ≡ step.turnedRecord (now (part .entry)) ⌝ }
+    requires { 4 + size_of call_fields (number_at 4 part.old) ≤ length part.old }
+    ensures { part.new ≡ step.turned_record part.old }
 {
     let map = read_number(part, 4);
     turn(part, map);
@@ -197,7 +193,7 @@ fn turn_record(part: &mut [u8])
 
 // Writes a call's record of the second edition.
 fn write_second(out: &mut [u8], at: usize, call: Call) -> Written
-    ensures { λ r. ⌜ (r ≡ answerOf (now (out .entry)) at (spec.recordAs Second call)) × (now (out .exit) ≡ bufferOf (now (out .entry)) at (spec.recordAs Second call)) ⌝ }
+    ensures { (result ≡ answer_of out.old at (spec.record_as Second call)) × (out.new ≡ buffer_of out.old at (spec.record_as Second call)) }
 {
     let answer = write_call(out, at, call);
     match answer {
@@ -211,7 +207,7 @@ fn write_second(out: &mut [u8], at: usize, call: Call) -> Written
 
 // Writes a call's record of an edition.
 pub fn write_as(out: &mut [u8], at: usize, call: Call, edition: Edition) -> Written
-    ensures { λ r. ⌜ (r ≡ answerOf (now (out .entry)) at (spec.recordAs edition call)) × (now (out .exit) ≡ bufferOf (now (out .entry)) at (spec.recordAs edition call)) ⌝ }
+    ensures { (result ≡ answer_of out.old at (spec.record_as edition call)) × (out.new ≡ buffer_of out.old at (spec.record_as edition call)) }
 {
     match edition {
         Edition::First => write_call(out, at, call),
@@ -222,7 +218,7 @@ pub fn write_as(out: &mut [u8], at: usize, call: Call, edition: Edition) -> Writ
 // ---- converting
 
 fn other(edition: Edition) -> Edition
-    ensures { λ r. ⌜ r ≡ spec.other edition ⌝ }
+    ensures { result ≡ spec.other edition }
 {
     match edition {
         Edition::First => Edition::Second,
@@ -231,7 +227,7 @@ fn other(edition: Edition) -> Edition
 }
 
 fn places_of(next: usize, answer: Written) -> Converted
-    ensures { λ r. ⌜ r ≡ spec.places next answer ⌝ }
+    ensures { result ≡ spec.places next answer }
 {
     match answer {
         Written::Refused(r) => Converted::Refused(r),
@@ -244,7 +240,7 @@ fn places_of(next: usize, answer: Written) -> Converted
 
 // Converts the record at a place to the wanted edition, and writes it at a place of a second buffer.
 pub fn convert(s: &[u8], at: usize, wanted: Edition, out: &mut [u8], place: usize) -> Converted
-    ensures { λ r. ⌜ (r ≡ spec.answer wanted (spec.readAs (spec.other wanted) (now (s .entry)) at) (now (out .entry)) place) × (now (out .exit) ≡ spec.buffer wanted (spec.readAs (spec.other wanted) (now (s .entry)) at) (now (out .entry)) place) ⌝ }
+    ensures { (result ≡ spec.answer wanted (spec.read_as (spec.other wanted) s.now at) out.old place) × (out.new ≡ spec.buffer wanted (spec.read_as (spec.other wanted) s.now at) out.old place) }
 {
     let from = other(wanted);
     let read = read_as(s, at, from);

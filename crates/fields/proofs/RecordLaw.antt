@@ -1,93 +1,93 @@
 -- The field law: reading back what was written gives the values again, by induction over the list of fields, whatever their
 -- count and their byte counts. Assumes nothing.
-use mathlib.Core.Path.{_≡_, refl, sym, ap, subst, _∙_}
-use mathlib.Core.Bool.{Bool, true, false, not, cond, _||_}
-use mathlib.Core.List.{List, [], _∷_, _++_, append-assoc, map}
-use Prim.Native.Nat.{ℕ, zero, suc, _+_, _-_, _*_, _/_, _%_, _<_, _≤_, _^_}
+use mathlib.Core.Path.{◌≡◌, refl, sym, ap, subst, ◌∙◌}
+use mathlib.Core.Bool.{Bool, true, false, not, cond, ◌||◌}
+use mathlib.Core.List.{List, [], ◌∷◌, ◌++◌, append_assoc, map}
+use Prim.Native.Nat.{ℕ, zero, suc, ◌+◌, ◌*◌, ◌/◌, ◌%◌, ◌<◌, ◌≤◌, ◌^◌}
 use native.Mathlib.Omega.{arith}
-use native.Mathlib.Nat.{pow-suc, mul-comm, div-div-eq-div-mul}
-use borrow.Author.Tests.{eq-eqb, ne-eqb, eqb-true, eqb-false}
+use native.Mathlib.Nat.{pow-suc, mul_comm, div-div-eq-div-mul}
+use borrow.Author.Tests.{eq-eqb, ne_eqb, eqb-true}
 use lib.Dec.{T, eqb, lit<}
-use lib.Pow.{pow-pos}
-use lib.ListN.{length, drop, getD}
-use lib.Ieee.{Float, nan, binary32, fits, ofBits, toBits}
-use lib.Ieee.Bits.{ofBits-toBits, ofBits-fits, toBits-lt}
-use Rattle·fields·specs.specs.Bytes.{numberAt, bytesOf}
-use Rattle·fields·specs.specs.Fields.{Field, stands, sizeOf, valuesAt, isWritten, bitOf, mapOf, bodyOf, numberFields, Held}
-use Rattle·fields·specs.specs.Numbers.{floatsOf, bitsOf, AreF32}
-use Rattle·fields·proofs.proofs.NumberLaw.{number-back, drop-bytes}
-use Rattle·fields·proofs.proofs.FieldLaw.{bit-small}
+use lib.Pow.{pow_pos}
+use lib.ListN.{length, drop, get_or}
+use lib.Ieee.{Float, binary32, fits}
+use lib.Ieee.Bits.{of_bits-to_bits, of_bits-fits, to_bits-lt}
+use Rattle.fields.specs.Bytes.{number_at, bytes_of}
+use Rattle.fields.specs.Fields.{Field, stands, size_of, values_at, is_written, bit_of, map_of, body_of, number_fields, Held}
+use Rattle.fields.specs.Numbers.{floats_of, bits_of, AreF32}
+use Rattle.fields.proofs.NumberLaw.{number_back, drop_bytes}
+use Rattle.fields.proofs.FieldLaw.{bit_small}
 
 -- ---- a map of bits
 
-half-bit : (b : Bool) (m : ℕ) → (bitOf b + 2 * m) / 2 ≡ m
-half-bit true m = omega arith
-half-bit false m = omega arith
+half_bit : (b : Bool) (m : ℕ) → (bit_of b + 2 * m) / 2 ≡ m
+half_bit true m = omega arith
+half_bit false m = omega arith
 
-low-bit : (b : Bool) (m : ℕ) → stands (bitOf b + 2 * m) ≡ b
-low-bit true m = eq-eqb ((1 + 2 * m) % 2) 1 (omega arith)
-low-bit false m = ne-eqb ((0 + 2 * m) % 2) 1 (λ (e : (0 + 2 * m) % 2 ≡ 1). omega arith)
+low_bit : (b : Bool) (m : ℕ) → stands (bit_of b + 2 * m) ≡ b
+low_bit true m = eq-eqb ((1 + 2 * m) % 2) 1 (omega arith)
+low_bit false m = ne_eqb ((0 + 2 * m) % 2) 1 (λ (e : (0 + 2 * m) % 2 ≡ 1). omega arith)
 
 -- a map of n fields is below 2 ^ n: no bit is unnamed
-pub map-small : (fs : List Field) (ks vs : List ℕ) → mapOf fs ks vs < 2 ^ length fs
-unfolding mapOf
-map-small [] ks vs = lit< tt
-map-small (f ∷ fs) [] vs = pow-pos (length (f ∷ fs))
-map-small (f ∷ fs) (k ∷ ks) [] = pow-pos (length (f ∷ fs))
-map-small (f ∷ fs) (k ∷ ks) (v ∷ vs) = rw (pow-suc 2 (length fs)) (omega (arith, map-small fs ks vs, bit-small (isWritten k v (f .missing))))
+pub map_small : (fs : List Field) (ks vs : List ℕ) → map_of fs ks vs < 2 ^ length fs
+unfolding map_of
+map_small [] ks vs = lit< tt
+map_small (f ∷ fs) [] vs = pow_pos (length (f ∷ fs))
+map_small (f ∷ fs) (k ∷ ks) [] = pow_pos (length (f ∷ fs))
+map_small (f ∷ fs) (k ∷ ks) (v ∷ vs) = rw (pow-suc 2 (length fs)) (omega (arith, map_small fs ks vs, bit_small (is_written k v f.missing)))
 
 -- the field at a place
-abbrev pub fieldAt : List Field → ℕ → Field
-fieldAt fs n = getD fs n (record { bytes = 0; missing = 0 })
+abbrev pub field_at : List Field → ℕ → Field
+field_at fs n = get_or fs n (record { bytes = 0; missing = 0 })
 
 -- bit n of a map says whether field n is written
-pub map-bit : (n : ℕ) (fs : List Field) (ks vs : List ℕ) → n < length fs → length ks ≡ length fs → length vs ≡ length fs
-    → mapOf fs ks vs / 2 ^ n % 2 ≡ bitOf (isWritten (getD ks n 0) (getD vs n 0) (fieldAt fs n .missing))
-unfolding mapOf
-map-bit n [] ks vs h lk lv = absurd (omega arith)
-map-bit n (f ∷ fs) [] vs h lk lv = absurd (omega arith)
-map-bit n (f ∷ fs) (k ∷ ks) [] h lk lv = absurd (omega arith)
-map-bit zero (f ∷ fs) (k ∷ ks) (v ∷ vs) h lk lv = omega (arith, bit-small (isWritten k v (f .missing)))
-map-bit (suc n) (f ∷ fs) (k ∷ ks) (v ∷ vs) h lk lv =
-    let m = mapOf fs ks vs in
-    let two : 2 ^ suc n ≡ 2 * 2 ^ n = pow-suc 2 n ∙ mul-comm (2 ^ n) 2 in
-    rw (two, ← div-div-eq-div-mul (bitOf (isWritten k v (f .missing)) + 2 * m) 2 (2 ^ n), half-bit (isWritten k v (f .missing)) m)
-    (map-bit n fs ks vs (omega arith) (omega arith) (omega arith))
+pub map_bit : (n : ℕ) (fs : List Field) (ks vs : List ℕ) → n < length fs → length ks ≡ length fs → length vs ≡ length fs
+    → map_of fs ks vs / 2 ^ n % 2 ≡ bit_of (is_written (get_or ks n 0) (get_or vs n 0) (field_at fs n).missing)
+unfolding map_of
+map_bit n [] ks vs h lk lv = absurd (omega arith)
+map_bit n (f ∷ fs) [] vs h lk lv = absurd (omega arith)
+map_bit n (f ∷ fs) (k ∷ ks) [] h lk lv = absurd (omega arith)
+map_bit zero (f ∷ fs) (k ∷ ks) (v ∷ vs) h lk lv = omega (arith, bit_small (is_written k v f.missing))
+map_bit (suc n) (f ∷ fs) (k ∷ ks) (v ∷ vs) h lk lv =
+    let m = map_of fs ks vs in
+    let two : 2 ^ suc n ≡ 2 * 2 ^ n = pow-suc 2 n ∙ mul_comm (2 ^ n) 2 in
+    rw (two, ← div-div-eq-div-mul (bit_of (is_written k v f.missing) + 2 * m) 2 (2 ^ n), half_bit (is_written k v f.missing) m)
+    (map_bit n fs ks vs (omega arith) (omega arith) (omega arith))
 
 -- ---- the field law
 
 -- what is left out is what missing means
-left-out : (k v d : ℕ) → isWritten k v d ≡ false → d ≡ v
-left-out k v d e = go (eqb k 1) (eqb v d) refl e
+left_out : (k v d : ℕ) → is_written k v d ≡ false → d ≡ v
+left_out k v d e = go (eqb k 1) (eqb v d) refl e
   where
     go : (a b : Bool) → eqb v d ≡ b → (a || not b) ≡ false → d ≡ v
     go a true p q = sym (eqb-true v d p)
     go true false p q = absurd (subst T q tt)
     go false false p q = absurd (subst T q tt)
 
-pub fields-back : (fs : List Field) (ks vs rest : List ℕ) → length ks ≡ length fs → Held fs vs
-    → valuesAt fs (mapOf fs ks vs) (bodyOf fs (mapOf fs ks vs) vs ++ rest) ≡ vs
-unfolding valuesAt bodyOf mapOf Held
-fields-back [] ks [] rest lk h = refl
-fields-back [] ks (v ∷ vs) rest lk h = absurd h
-fields-back (f ∷ fs) [] vs rest lk h = absurd (omega arith)
-fields-back (f ∷ fs) (k ∷ ks) [] rest lk h = absurd h
-fields-back (f ∷ fs) (k ∷ ks) (v ∷ vs) rest lk h =
-    let m = mapOf fs ks vs in
-    let w = isWritten k v (f .missing) in
-    rw (half-bit w m, low-bit w m) (go w refl (fields-back fs ks vs rest (omega arith) (h .1)))
+pub fields_back : (fs : List Field) (ks vs rest : List ℕ) → length ks ≡ length fs → Held fs vs
+    → values_at fs (map_of fs ks vs) (body_of fs (map_of fs ks vs) vs ++ rest) ≡ vs
+unfolding values_at body_of map_of Held
+fields_back [] ks [] rest lk h = refl
+fields_back [] ks (v ∷ vs) rest lk h = absurd h
+fields_back (f ∷ fs) [] vs rest lk h = absurd (omega arith)
+fields_back (f ∷ fs) (k ∷ ks) [] rest lk h = absurd h
+fields_back (f ∷ fs) (k ∷ ks) (v ∷ vs) rest lk h =
+    let m = map_of fs ks vs in
+    let w = is_written k v f.missing in
+    rw (half_bit w m, low_bit w m) (go w refl (fields_back fs ks vs rest (omega arith) h.1))
   where
-    go : (b : Bool) → isWritten k v (f .missing) ≡ b → valuesAt fs (mapOf fs ks vs) (bodyOf fs (mapOf fs ks vs) vs ++ rest) ≡ vs
+    go : (b : Bool) → is_written k v f.missing ≡ b → values_at fs (map_of fs ks vs) (body_of fs (map_of fs ks vs) vs ++ rest) ≡ vs
         → cond b
-        (numberAt (f .bytes) ((cond b (bytesOf (f .bytes) v) [] ++ bodyOf fs (mapOf fs ks vs) vs) ++ rest)
-        ∷ valuesAt fs (mapOf fs ks vs)
-        (drop (f .bytes) ((cond b (bytesOf (f .bytes) v) [] ++ bodyOf fs (mapOf fs ks vs) vs) ++ rest)))
-        (f .missing ∷ valuesAt fs (mapOf fs ks vs) ((cond b (bytesOf (f .bytes) v) [] ++ bodyOf fs (mapOf fs ks vs) vs) ++ rest))
+        (number_at f.bytes ((cond b (bytes_of f.bytes v) [] ++ body_of fs (map_of fs ks vs) vs) ++ rest)
+        ∷ values_at fs (map_of fs ks vs)
+        (drop f.bytes ((cond b (bytes_of f.bytes v) [] ++ body_of fs (map_of fs ks vs) vs) ++ rest)))
+        (f.missing ∷ values_at fs (map_of fs ks vs) ((cond b (bytes_of f.bytes v) [] ++ body_of fs (map_of fs ks vs) vs) ++ rest))
         ≡ v ∷ vs
     go true e ih =
-        let body = bodyOf fs (mapOf fs ks vs) vs in
-        rw (append-assoc (bytesOf (f .bytes) v) body rest, drop-bytes (f .bytes) v (body ++ rest), number-back (f .bytes) v (body ++ rest) (h .0), ih)
-    go false e ih = rw (left-out k v (f .missing) e, ih)
+        let body = body_of fs (map_of fs ks vs) vs in
+        rw (append_assoc (bytes_of f.bytes v) body rest, drop_bytes f.bytes v (body ++ rest), number_back f.bytes v (body ++ rest) h.0, ih)
+    go false e ih = rw (left_out k v f.missing e, ih)
 
 -- ---- a record that was read is written with no more fields than it had
 
@@ -96,25 +96,25 @@ unfoldable pub Within : List Field → List ℕ → List ℕ → ℕ → Type 0
 Within [] ks vs m = Unit {0}
 Within (f ∷ fs) [] vs m = Unit {0}
 Within (f ∷ fs) (k ∷ ks) [] m = Unit {0}
-Within (f ∷ fs) (k ∷ ks) (v ∷ vs) m = (stands m ≡ false → isWritten k v (f .missing) ≡ false) × Within fs ks vs (m / 2)
+Within (f ∷ fs) (k ∷ ks) (v ∷ vs) m = (stands m ≡ false → is_written k v f.missing ≡ false) × Within fs ks vs (m / 2)
 
-no-size : (fs : List Field) → sizeOf fs 0 ≡ 0
-unfolding sizeOf
-no-size [] = refl
-no-size (f ∷ fs) = omega (arith, no-size fs)
+no_size : (fs : List Field) → size_of fs 0 ≡ 0
+unfolding size_of
+no_size [] = refl
+no_size (f ∷ fs) = omega (arith, no_size fs)
 
-pub size-within : (fs : List Field) (ks vs : List ℕ) (m : ℕ) → Within fs ks vs m → sizeOf fs (mapOf fs ks vs) ≤ sizeOf fs m
-unfolding sizeOf mapOf Within
-size-within [] ks vs m h = omega arith
-size-within (f ∷ fs) [] vs m h = omega (arith, no-size fs)
-size-within (f ∷ fs) (k ∷ ks) [] m h = omega (arith, no-size fs)
-size-within (f ∷ fs) (k ∷ ks) (v ∷ vs) m h =
-    let w = isWritten k v (f .missing) in
-    let n = mapOf fs ks vs in
-    rw (half-bit w n, low-bit w n) (go w (stands m) (h .0) (size-within fs ks vs (m / 2) (h .1)))
+pub size_within : (fs : List Field) (ks vs : List ℕ) (m : ℕ) → Within fs ks vs m → size_of fs (map_of fs ks vs) ≤ size_of fs m
+unfolding size_of map_of Within
+size_within [] ks vs m h = omega arith
+size_within (f ∷ fs) [] vs m h = omega (arith, no_size fs)
+size_within (f ∷ fs) (k ∷ ks) [] m h = omega (arith, no_size fs)
+size_within (f ∷ fs) (k ∷ ks) (v ∷ vs) m h =
+    let w = is_written k v f.missing in
+    let n = map_of fs ks vs in
+    rw (half_bit w n, low_bit w n) (go w (stands m) h.0 (size_within fs ks vs (m / 2) h.1))
   where
-    go : (a b : Bool) → (b ≡ false → a ≡ false) → sizeOf fs (mapOf fs ks vs) ≤ sizeOf fs (m / 2)
-        → cond a (f .bytes) 0 + sizeOf fs (mapOf fs ks vs) ≤ cond b (f .bytes) 0 + sizeOf fs (m / 2)
+    go : (a b : Bool) → (b ≡ false → a ≡ false) → size_of fs (map_of fs ks vs) ≤ size_of fs (m / 2)
+        → cond a f.bytes 0 + size_of fs (map_of fs ks vs) ≤ cond b f.bytes 0 + size_of fs (m / 2)
     go true true p ih = omega arith
     go true false p ih = absurd (subst T (p refl) tt)
     go false true p ih = omega arith
@@ -125,54 +125,54 @@ abbrev pub halved : ℕ → ℕ → ℕ
 halved zero m = m
 halved (suc n) m = halved n (m / 2)
 
-pub value-missing : (n : ℕ) (ds : List ℕ) (m : ℕ) (s : List ℕ) → stands (halved n m) ≡ false → getD (valuesAt (numberFields ds) m s) n 0 ≡ getD ds n 0
-unfolding valuesAt numberFields
-value-missing n [] m s e = refl
-value-missing zero (d ∷ ds) m s e = rw e
-value-missing (suc n) (d ∷ ds) m s e = go (stands m) (λ (r : List ℕ). value-missing n ds (m / 2) r e)
+pub value_missing : (n : ℕ) (ds : List ℕ) (m : ℕ) (s : List ℕ) → stands (halved n m) ≡ false → get_or (values_at (number_fields ds) m s) n 0 ≡ get_or ds n 0
+unfolding values_at number_fields
+value_missing n [] m s e = refl
+value_missing zero (d ∷ ds) m s e = rw e
+value_missing (suc n) (d ∷ ds) m s e = go (stands m) (λ (r : List ℕ). value_missing n ds (m / 2) r e)
   where
-    go : (b : Bool) → ((r : List ℕ) → getD (valuesAt (numberFields ds) (m / 2) r) n 0 ≡ getD ds n 0)
-        → getD (cond b (numberAt 4 s ∷ valuesAt (numberFields ds) (m / 2) (drop 4 s)) (d ∷ valuesAt (numberFields ds) (m / 2) s)) (suc n) 0 ≡ getD ds n 0
+    go : (b : Bool) → ((r : List ℕ) → get_or (values_at (number_fields ds) (m / 2) r) n 0 ≡ get_or ds n 0)
+        → get_or (cond b (number_at 4 s ∷ values_at (number_fields ds) (m / 2) (drop 4 s)) (d ∷ values_at (number_fields ds) (m / 2) s)) (suc n) 0 ≡ get_or ds n 0
     go true ih = ih (drop 4 s)
     go false ih = ih s
 
 -- ---- f32s and their bits
 
-pub floats-back : (xs : List Float) → AreF32 xs → floatsOf (bitsOf xs) ≡ xs
-unfolding floatsOf bitsOf AreF32
-floats-back [] h = refl
-floats-back (x ∷ xs) h = rw (ofBits-toBits binary32 x (h .0)) (ap (λ (l : List Float). x ∷ l) (floats-back xs (h .1)))
+pub floats_back : (xs : List Float) → AreF32 xs → floats_of (bits_of xs) ≡ xs
+unfolding floats_of bits_of AreF32
+floats_back [] h = refl
+floats_back (x ∷ xs) h = rw (of_bits-to_bits binary32 x h.0) (ap (λ (l : List Float). x ∷ l) (floats_back xs h.1))
 
 -- the same as one test that is computed
-abbrev pub allFit : List Float → Bool
-allFit [] = true
-allFit (x ∷ xs) = cond (fits binary32 x) (allFit xs) false
+abbrev pub all_fit : List Float → Bool
+all_fit [] = true
+all_fit (x ∷ xs) = cond (fits binary32 x) (all_fit xs) false
 
-pub all-fit : (xs : List Float) → T (allFit xs) → AreF32 xs
+pub all_fit_lem : (xs : List Float) → T (all_fit xs) → AreF32 xs
 unfolding AreF32
-all-fit [] h = tt
-all-fit (x ∷ xs) h = go (fits binary32 x) refl h (λ (k : T (allFit xs)). all-fit xs k)
+all_fit_lem [] h = tt
+all_fit_lem (x ∷ xs) h = go (fits binary32 x) refl h (λ (k : T (all_fit xs)). all_fit_lem xs k)
   where
-    go : (b : Bool) → fits binary32 x ≡ b → T (cond b (allFit xs) false) → (T (allFit xs) → AreF32 xs) → T (fits binary32 x) × AreF32 xs
+    go : (b : Bool) → fits binary32 x ≡ b → T (cond b (all_fit xs) false) → (T (all_fit xs) → AreF32 xs) → T (fits binary32 x) × AreF32 xs
     go true e k r = (subst T (sym e) tt, r k)
     go false e k r = absurd k
 
 -- what is read is what an f32 holds
-pub floats-are : (ns : List ℕ) → AreF32 (floatsOf ns)
-unfolding floatsOf AreF32
-floats-are [] = tt
-floats-are (n ∷ ns) = (ofBits-fits binary32 n, floats-are ns)
+pub floats_are : (ns : List ℕ) → AreF32 (floats_of ns)
+unfolding floats_of AreF32
+floats_are [] = tt
+floats_are (n ∷ ns) = (of_bits-fits binary32 n, floats_are ns)
 
 -- bits of f32s are held by fields of four bytes
-pub bits-held : (ds : List ℕ) (xs : List Float) → length xs ≡ length ds → AreF32 xs → Held (numberFields ds) (bitsOf xs)
-unfolding Held numberFields bitsOf AreF32
-bits-held [] [] l h = tt
-bits-held [] (x ∷ xs) l h = absurd (omega arith)
-bits-held (d ∷ ds) [] l h = absurd (omega arith)
-bits-held (d ∷ ds) (x ∷ xs) l h = (toBits-lt binary32 x (h .0), bits-held ds xs (omega arith) (h .1))
+pub bits_held : (ds : List ℕ) (xs : List Float) → length xs ≡ length ds → AreF32 xs → Held (number_fields ds) (bits_of xs)
+unfolding Held number_fields bits_of AreF32
+bits_held [] [] l h = tt
+bits_held [] (x ∷ xs) l h = absurd (omega arith)
+bits_held (d ∷ ds) [] l h = absurd (omega arith)
+bits_held (d ∷ ds) (x ∷ xs) l h = (to_bits-lt binary32 x h.0, bits_held ds xs (omega arith) h.1)
 
 -- an element of a mapped list
-pub getD-mapped : {A B : Type 0} (f : A → B) (xs : List A) (n : ℕ) (d : A) (e : B) → n < length xs → getD (map f xs) n e ≡ f (getD xs n d)
-getD-mapped f [] n d e h = absurd (omega arith)
-getD-mapped f (x ∷ xs) zero d e h = refl
-getD-mapped f (x ∷ xs) (suc n) d e h = getD-mapped f xs n d e (omega arith)
+pub get_d_mapped : {A B : Type 0} (f : A → B) (xs : List A) (n : ℕ) (d : A) (e : B) → n < length xs → get_or (map f xs) n e ≡ f (get_or xs n d)
+get_d_mapped f [] n d e h = absurd (omega arith)
+get_d_mapped f (x ∷ xs) zero d e h = refl
+get_d_mapped f (x ∷ xs) (suc n) d e h = get_d_mapped f xs n d e (omega arith)

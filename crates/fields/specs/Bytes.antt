@@ -1,24 +1,20 @@
 -- Numbers in bytes: "numbers and every map are low byte first". Definitions only.
-use mathlib.Core.Bool.{Bool}
-use mathlib.Core.List.{List, [], _∷_, _++_}
-use Prim.Native.Nat.{ℕ, zero, suc, _+_, _*_, _/_, _%_}
-use lib.Dec.{leb}
-use lib.ListN.{length, getD, take, drop}
+use Rattle.std.specs.Prelude.{Bool, List, [], ◌∷◌, ◌++◌, ℕ, zero, suc, ◌+◌, ◌*◌, ◌/◌, ◌%◌, leb, length, get_or, take, drop}
 
 -- the number that the first n bytes of s spell, low byte first
-unfoldable pub numberAt : ℕ → List ℕ → ℕ
-numberAt zero s = 0
-numberAt (suc n) s = getD s 0 0 + 256 * numberAt n (drop 1 s)
+unfoldable pub number_at : ℕ → List ℕ → ℕ
+number_at zero s = 0
+number_at (suc n) s = get_or s 0 0 + 256 * number_at n (drop 1 s)
 
 -- the n bytes of a number, low byte first
-unfoldable pub bytesOf : ℕ → ℕ → List ℕ
-bytesOf zero v = []
-bytesOf (suc n) v = v % 256 ∷ bytesOf n (v / 256)
+unfoldable pub bytes_of : ℕ → ℕ → List ℕ
+bytes_of zero v = []
+bytes_of (suc n) v = v % 256 ∷ bytes_of n (v / 256)
 
 -- s has n bytes from a place on; no place past the end has any
-abbrev pub hasBytes : List ℕ → ℕ → ℕ → Bool
-hasBytes s at n = leb (at + n) (length s)
+abbrev pub has_bytes : List ℕ → ℕ → ℕ → Bool
+has_bytes s at n = leb (at + n) (length s)
 
 -- a buffer into which bytes are put from a place on; its other bytes are kept
-abbrev pub putAt : List ℕ → ℕ → List ℕ → List ℕ
-putAt out at bs = take at out ++ (bs ++ drop (at + length bs) out)
+abbrev pub put_at : List ℕ → ℕ → List ℕ → List ℕ
+put_at out at bs = take at out ++ (bs ++ drop (at + length bs) out)

@@ -1,10 +1,6 @@
 -- The fields of a record: bit n of its map says whether field n stands. Definitions only.
-use mathlib.Core.Bool.{Bool, cond, not, _||_}
-use mathlib.Core.List.{List, [], _∷_, _++_}
-use Prim.Native.Nat.{ℕ, zero, suc, _+_, _*_, _/_, _%_, _^_, _<_}
-use lib.Dec.{eqb, ltb}
-use lib.ListN.{length, drop}
-use Rattle·fields·specs.specs.Bytes.{numberAt, bytesOf}
+use Rattle.std.specs.Prelude.{Bool, cond, not, ◌||◌, List, [], ◌∷◌, ◌++◌, ℕ, zero, suc, ◌+◌, ◌*◌, ◌/◌, ◌%◌, ◌^◌, ◌<◌, eqb, ltb, length, drop}
+use Rattle.fields.specs.Bytes.{number_at, bytes_of}
 
 -- A field: how many bytes it has, and the value that a missing one means. A record's list of fields names the
 -- lowest bits of its map, the first field bit 0.
@@ -25,39 +21,39 @@ abbrev pub named : List Field → ℕ → Bool
 named fs m = ltb m (2 ^ length fs)
 
 -- the byte count that a map demands
-unfoldable pub sizeOf : List Field → ℕ → ℕ
-sizeOf [] m = 0
-sizeOf (f ∷ fs) m = cond (stands m) (f .bytes) 0 + sizeOf fs (m / 2)
+unfoldable pub size_of : List Field → ℕ → ℕ
+size_of [] m = 0
+size_of (f ∷ fs) m = cond (stands m) f.bytes 0 + size_of fs (m / 2)
 
 -- Reading: "each field is read from where the one before it ended".
-unfoldable pub valuesAt : List Field → ℕ → List ℕ → List ℕ
-valuesAt [] m s = []
-valuesAt (f ∷ fs) m s =
+unfoldable pub values_at : List Field → ℕ → List ℕ → List ℕ
+values_at [] m s = []
+values_at (f ∷ fs) m s =
     cond (stands m)
-    (numberAt (f .bytes) s ∷ valuesAt fs (m / 2) (drop (f .bytes) s))
-    (f .missing ∷ valuesAt fs (m / 2) s)
+    (number_at f.bytes s ∷ values_at fs (m / 2) (drop f.bytes s))
+    (f.missing ∷ values_at fs (m / 2) s)
 
 -- Writing: "the writer leaves out what missing would give, compared as bits". k is 1 for a field that is written
 -- whatever its value: the kind, and a leg, an airspeed or a cap that is present.
-abbrev pub isWritten : ℕ → ℕ → ℕ → Bool
-isWritten k v missing = eqb k 1 || not (eqb v missing)
+abbrev pub is_written : ℕ → ℕ → ℕ → Bool
+is_written k v missing = eqb k 1 || not (eqb v missing)
 
 -- a bit that stands, or does not
-abbrev pub bitOf : Bool → ℕ
-bitOf b = cond b 1 0
+abbrev pub bit_of : Bool → ℕ
+bit_of b = cond b 1 0
 
 -- the map of the fields that are written
-unfoldable pub mapOf : List Field → List ℕ → List ℕ → ℕ
-mapOf [] ks vs = 0
-mapOf (f ∷ fs) [] vs = 0
-mapOf (f ∷ fs) (k ∷ ks) [] = 0
-mapOf (f ∷ fs) (k ∷ ks) (v ∷ vs) = bitOf (isWritten k v (f .missing)) + 2 * mapOf fs ks vs
+unfoldable pub map_of : List Field → List ℕ → List ℕ → ℕ
+map_of [] ks vs = 0
+map_of (f ∷ fs) [] vs = 0
+map_of (f ∷ fs) (k ∷ ks) [] = 0
+map_of (f ∷ fs) (k ∷ ks) (v ∷ vs) = bit_of (is_written k v f.missing) + 2 * map_of fs ks vs
 
 -- the bytes of the fields that stand in a map
-unfoldable pub bodyOf : List Field → ℕ → List ℕ → List ℕ
-bodyOf [] m vs = []
-bodyOf (f ∷ fs) m [] = []
-bodyOf (f ∷ fs) m (v ∷ vs) = cond (stands m) (bytesOf (f .bytes) v) [] ++ bodyOf fs (m / 2) vs
+unfoldable pub body_of : List Field → ℕ → List ℕ → List ℕ
+body_of [] m vs = []
+body_of (f ∷ fs) m [] = []
+body_of (f ∷ fs) m (v ∷ vs) = cond (stands m) (bytes_of f.bytes v) [] ++ body_of fs (m / 2) vs
 
 -- how many of the n lowest bits of a map stand
 unfoldable pub ones : ℕ → ℕ → ℕ
@@ -65,13 +61,13 @@ ones zero m = 0
 ones (suc n) m = m % 2 + ones n (m / 2)
 
 -- fields that are numbers, of four bytes each
-unfoldable pub numberFields : List ℕ → List Field
-numberFields [] = []
-numberFields (d ∷ ds) = record { bytes = 4; missing = d } ∷ numberFields ds
+unfoldable pub number_fields : List ℕ → List Field
+number_fields [] = []
+number_fields (d ∷ ds) = record { bytes = 4; missing = d } ∷ number_fields ds
 
 -- one value for each field, and each is one that the field's bytes can spell
 unfoldable pub Held : List Field → List ℕ → Type 0
 Held [] [] = Unit {0}
 Held [] (v ∷ vs) = ⊥
 Held (f ∷ fs) [] = ⊥
-Held (f ∷ fs) (v ∷ vs) = (v < 256 ^ f .bytes) × Held fs vs
+Held (f ∷ fs) (v ∷ vs) = (v < 256 ^ f.bytes) × Held fs vs

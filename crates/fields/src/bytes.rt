@@ -1,21 +1,19 @@
 // Numbers in bytes, low byte first.
-ghost use mathlib.Core.Path.{_≡_};
-ghost use mathlib.Core.List.{_++_};
-ghost use Prim.Native.Nat.{_≤_, _<_, _^_};
-ghost use lib.ListN.{length, drop};
-ghost use lib.Ieee.{binary32, ofBits, toBits};
-ghost use Rattle·fields·specs.specs.Bytes.{numberAt, bytesOf};
+ghost use Rattle.std.specs.Prelude.{◌≡◌, ◌++◌, ◌≤◌, ◌<◌, ◌^◌, length, drop};
+ghost use Rattle.std.specs.Float.{binary32};
+ghost use Rattle.std.specs.Float.Ieee.{of_bits, to_bits};
+ghost use Rattle.fields.specs.Bytes.{number_at, bytes_of};
 
 fn wide(b: u8) -> u64
-    ensures { λ r. ⌜ (r ≡ b) × (r < 256) ⌝ }
+    ensures { (result ≡ b) × (result < 256) }
 {
     b as u64
 }
 
 // The number that the first n bytes spell: a map takes 4 or 5 bytes, an f32's bits 4.
 pub fn read_number(part: &[u8], n: usize) -> u64
-    requires { ⌜ (n ≤ 7) × (n ≤ length (now part)) ⌝ }
-    ensures { λ r. ⌜ (r ≡ numberAt n (now (part .entry))) × (r < 256 ^ n) ⌝ }
+    requires { (n ≤ 7) × (n ≤ length part.now) }
+    ensures { (result ≡ number_at n part.now) × (result < 256 ^ n) }
 {
     let mut v: u64 = 0;
     let mut i = n;
@@ -28,8 +26,8 @@ pub fn read_number(part: &[u8], n: usize) -> u64
 
 // Writes the n bytes of a number.
 pub fn write_number(part: &mut [u8], n: usize, number: u64)
-    requires { ⌜ n ≤ length (now part) ⌝ }
-    ensures { λ _. ⌜ now (part .exit) ≡ bytesOf n number ++ drop n (now (part .entry)) ⌝ }
+    requires { n ≤ length part.old }
+    ensures { part.new ≡ bytes_of n number ++ drop n part.old }
 {
     let mut v = number;
     let mut i = 0;
@@ -47,7 +45,7 @@ const INFINITY: u32 = 0x7f800000;
 
 // The f32 with these bits, every NaN alike.
 pub fn from_bits(bits: u32) -> f32
-    ensures { λ r. ⌜ r ≡ ofBits binary32 bits ⌝ }
+    ensures { result ≡ of_bits binary32 bits }
 {
     if bits % SIGN > INFINITY {
         return 0.0 / 0.0;
@@ -57,7 +55,7 @@ pub fn from_bits(bits: u32) -> f32
 
 // The bits of an f32, 7fc00000 for a NaN.
 pub fn to_bits(v: f32) -> u32
-    ensures { λ r. ⌜ r ≡ toBits binary32 v ⌝ }
+    ensures { result ≡ to_bits binary32 v }
 {
     if v != v {
         return 0x7fc00000;

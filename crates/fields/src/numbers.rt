@@ -1,18 +1,16 @@
 // Lists of f32s and their bits.
+ghost use Rattle.std.specs.Prelude.{◌≡◌, ◌≤◌, ◌+◌, ◌-◌, ◌*◌, ◌^◌, length, drop, replicate};
+ghost use Rattle.std.specs.Float.{binary32};
+ghost use Rattle.std.specs.Float.Ieee.{of_bits};
+ghost use Rattle.fields.specs.Fields.{ones, values_at, number_fields};
+ghost use Rattle.fields.specs.Numbers.{floats_of, bits_of};
+
 use crate::Cursor;
-use crate::bytes::from_bits;
-use crate::bytes::read_number;
-use crate::bytes::to_bits;
-ghost use mathlib.Core.Path.{_≡_};
-ghost use Prim.Native.Nat.{_≤_, _+_, _-_, _*_, _^_};
-ghost use lib.ListN.{length, drop, replicate};
-ghost use lib.Ieee.{binary32, ofBits};
-ghost use Rattle·fields·specs.specs.Fields.{ones, valuesAt, numberFields};
-ghost use Rattle·fields·specs.specs.Numbers.{floatsOf, bitsOf};
+use crate::bytes::{from_bits, read_number, to_bits};
 
 pub fn floats(bits: &[u32], v: &mut [f32])
-    requires { ⌜ length (now v) ≡ length (now bits) ⌝ }
-    ensures { λ _. ⌜ now (v .exit) ≡ floatsOf (now (bits .entry)) ⌝ }
+    requires { length v.old ≡ length bits.now }
+    ensures { v.new ≡ floats_of bits.now }
 {
     let mut i = 0;
     while i < bits.len() {
@@ -22,8 +20,8 @@ pub fn floats(bits: &[u32], v: &mut [f32])
 }
 
 pub fn bits(v: &[f32], out: &mut [u32])
-    requires { ⌜ length (now out) ≡ length (now v) ⌝ }
-    ensures { λ _. ⌜ now (out .exit) ≡ bitsOf (now (v .entry)) ⌝ }
+    requires { length out.old ≡ length v.now }
+    ensures { out.new ≡ bits_of v.now }
 {
     let mut i = 0;
     while i < v.len() {
@@ -34,8 +32,8 @@ pub fn bits(v: &[f32], out: &mut [u32])
 
 // Reads each f32 whose bit stands; the others stay +0.
 pub fn read_floats(s: &[u8], from: Cursor, map: u64, v: &mut [f32]) -> Cursor
-    requires { ⌜ (now v ≡ replicate (length (now v)) (ofBits binary32 0)) × (from .at + 4 * ones (length (now v)) map ≤ length (now s)) ⌝ }
-    ensures { λ r. ⌜ (now (v .exit) ≡ floatsOf (valuesAt (numberFields (replicate (length (now (v .entry))) 0)) map (drop (from .at) (now (s .entry))))) × (r .at ≡ from .at + 4 * ones (length (now (v .entry))) map) ⌝ }
+    requires { (v.old ≡ replicate (length v.old) (of_bits binary32 0)) × (from.at + 4 * ones (length v.old) map ≤ length s.now) }
+    ensures { (v.new ≡ floats_of (values_at (number_fields (replicate (length v.old) 0)) map (drop from.at s.now))) × (result.at ≡ from.at + 4 * ones (length v.old) map) }
 {
     if map == 0 {
         return from;
@@ -59,8 +57,8 @@ pub fn read_floats(s: &[u8], from: Cursor, map: u64, v: &mut [f32]) -> Cursor
 
 // The same where every bit stands.
 fn read_all(s: &[u8], from: Cursor, v: &mut [f32]) -> Cursor
-    requires { ⌜ (now v ≡ replicate (length (now v)) (ofBits binary32 0)) × (from .at + 4 * length (now v) ≤ length (now s)) ⌝ }
-    ensures { λ r. ⌜ (now (v .exit) ≡ floatsOf (valuesAt (numberFields (replicate (length (now (v .entry))) 0)) (2 ^ length (now (v .entry)) - 1) (drop (from .at) (now (s .entry))))) × (r .at ≡ from .at + 4 * length (now (v .entry))) ⌝ }
+    requires { (v.old ≡ replicate (length v.old) (of_bits binary32 0)) × (from.at + 4 * length v.old ≤ length s.now) }
+    ensures { (v.new ≡ floats_of (values_at (number_fields (replicate (length v.old) 0)) (2 ^ length v.old - 1) (drop from.at s.now))) × (result.at ≡ from.at + 4 * length v.old) }
 {
     let mut at = from.at;
     let mut i = 0;
@@ -74,8 +72,8 @@ fn read_all(s: &[u8], from: Cursor, v: &mut [f32]) -> Cursor
 
 // Reads a group of f32s of which as a rule each stands: all is the map of that.
 pub fn read_group(s: &[u8], from: Cursor, map: u64, all: u64, v: &mut [f32]) -> Cursor
-    requires { ⌜ (all ≡ 2 ^ length (now v) - 1) × (now v ≡ replicate (length (now v)) (ofBits binary32 0)) × (from .at + 4 * ones (length (now v)) map ≤ length (now s)) ⌝ }
-    ensures { λ r. ⌜ (now (v .exit) ≡ floatsOf (valuesAt (numberFields (replicate (length (now (v .entry))) 0)) map (drop (from .at) (now (s .entry))))) × (r .at ≡ from .at + 4 * ones (length (now (v .entry))) map) ⌝ }
+    requires { (all ≡ 2 ^ length v.old - 1) × (v.old ≡ replicate (length v.old) (of_bits binary32 0)) × (from.at + 4 * ones (length v.old) map ≤ length s.now) }
+    ensures { (v.new ≡ floats_of (values_at (number_fields (replicate (length v.old) 0)) map (drop from.at s.now))) × (result.at ≡ from.at + 4 * ones (length v.old) map) }
 {
     if map == all {
         read_all(s, from, v)

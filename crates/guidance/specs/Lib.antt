@@ -1,4 +1,4 @@
--- Document 01, "Guidance": the calls on a guidance. `code` has the code's own steps.
+-- Document 01, "Guidance": the calls on a guidance. `Code` has the code's own steps.
 pub mod Plane
-pub mod Contracts
-pub mod code
+pub mod Promises
+pub mod Code

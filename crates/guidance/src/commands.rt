@@ -1,20 +1,18 @@
 // The setpoints of the commands other than a waypoint.
+ghost use Rattle.std.specs.Prelude.{◌≡◌};
+ghost use Rattle.guidance.specs.Plane as spec;
+ghost use Rattle.guidance.specs.Code.Orders as orders;
+
 use arithmetic::order::choose;
 use laws::config::PlaneGuidanceConfig;
-use laws::math::saturate_throttle;
-use laws::math::saturate_unit;
-use laws::types::AbsoluteAttitudeCommand;
-use laws::types::AbsoluteRateCommand;
-use laws::types::AttitudeCommand;
-use laws::types::ControlInput;
-use laws::types::RateCommand;
-use laws::types::Setpoint;
-use laws::types::WaypointCommand;
-ghost use mathlib.Core.Path.{_≡_};
-ghost use Rattle·guidance·specs.specs.Plane as spec;
-ghost use Rattle·guidance·specs.specs.code.Orders as orders;
+use laws::math::{saturate_throttle, saturate_unit};
+use laws::types::{
+    AbsoluteAttitudeCommand, AbsoluteRateCommand, AttitudeCommand, ControlInput, RateCommand,
+    Setpoint, WaypointCommand,
+};
 
 // What a command asks: a setpoint that it gives itself, or a waypoint to fly.
+#[derive(Clone, Copy)]
 pub enum Order {
     Setpoint(Setpoint),
     Waypoint(WaypointCommand),
@@ -22,7 +20,7 @@ pub enum Order {
 
 // Sticks to bank and pitch, pitch asymmetric.
 fn sticks(config: PlaneGuidanceConfig, command: AttitudeCommand) -> Setpoint
-    ensures { λ r. ⌜ r ≡ spec.sticks config command ⌝ }
+    ensures { result ≡ spec.sticks config command }
 {
     let pitch = saturate_unit(command.pitch);
     let pitch_limit = choose(
@@ -38,7 +36,7 @@ fn sticks(config: PlaneGuidanceConfig, command: AttitudeCommand) -> Setpoint
 }
 
 fn rates(config: PlaneGuidanceConfig, command: RateCommand) -> Setpoint
-    ensures { λ r. ⌜ r ≡ spec.rates config command ⌝ }
+    ensures { result ≡ spec.rates config command }
 {
     Setpoint::PlaneRate {
         roll_radps: saturate_unit(command.roll_rate) * config.max_rate_radps.x,
@@ -50,7 +48,7 @@ fn rates(config: PlaneGuidanceConfig, command: RateCommand) -> Setpoint
 
 // Angles pass unchecked, NaN included.
 fn absolute_attitude(command: AbsoluteAttitudeCommand) -> Setpoint
-    ensures { λ r. ⌜ r ≡ spec.absoluteAttitude command ⌝ }
+    ensures { result ≡ spec.absolute_attitude command }
 {
     Setpoint::Plane {
         roll_rad: command.roll_rad,
@@ -61,7 +59,7 @@ fn absolute_attitude(command: AbsoluteAttitudeCommand) -> Setpoint
 
 // Rates pass unchecked, NaN included.
 fn absolute_rate(command: AbsoluteRateCommand) -> Setpoint
-    ensures { λ r. ⌜ r ≡ spec.absoluteRate command ⌝ }
+    ensures { result ≡ spec.absolute_rate command }
 {
     Setpoint::PlaneRate {
         roll_radps: command.roll_radps,
@@ -73,7 +71,7 @@ fn absolute_rate(command: AbsoluteRateCommand) -> Setpoint
 
 // Level, no thrust.
 fn neutral() -> Setpoint
-    ensures { λ r. ⌜ r ≡ spec.neutral ⌝ }
+    ensures { result ≡ spec.neutral }
 {
     Setpoint::Plane {
         roll_rad: 0.0,
@@ -83,7 +81,7 @@ fn neutral() -> Setpoint
 }
 
 pub fn order_of(config: PlaneGuidanceConfig, input: ControlInput) -> Order
-    ensures { λ r. ⌜ r ≡ orders.orderOf config input ⌝ }
+    ensures { result ≡ orders.order_of config input }
 {
     match input {
         ControlInput::Attitude(k) => Order::Setpoint(sticks(config, k)),

@@ -1,41 +1,25 @@
 // The calls on a guidance: it goes in by value and comes back with the answer.
-use crate::commands::Order;
-use crate::commands::order_of;
-use crate::plane::Answer;
-use crate::plane::Configured;
-use crate::plane::Created;
-use crate::plane::FlightMode;
-use crate::plane::FlightModeReport;
-use crate::plane::Former;
-use crate::plane::Guided;
-use crate::plane::ModeRefusal;
-use crate::plane::PlaneGuidance;
-use crate::plane::TakenBack;
-use crate::waypoint::refusal;
-use crate::waypoint::regime_number;
-use crate::waypoint::waypoint;
-use crate::waypoint::waypoint_roll_first;
+ghost use Rattle.std.specs.Prelude.{◌≡◌};
+ghost use Rattle.laws.specs.declared.types.ControlInput.TheVariants.{Waypoint};
+ghost use Rattle.laws.specs.declared.types.OptionF32.TheVariants.{None};
+ghost use Rattle.guidance.specs.Plane as spec;
+ghost use Rattle.guidance.specs.Promises as contract;
+
+use crate::commands::{Order, order_of};
+use crate::plane::{
+    Answer, Configured, Created, FlightMode, FlightModeReport, Former, Guided, ModeRefusal,
+    PlaneGuidance, TakenBack,
+};
+use crate::waypoint::{refusal, regime_number, waypoint, waypoint_roll_first};
 use arithmetic::order::is_finite;
-use laws::config::PlaneGuidanceConfig;
-use laws::config::default;
-use laws::config::validate;
+use laws::config::{PlaneGuidanceConfig, default, validate};
 use laws::navigation::PiLoop;
 use laws::tecs::reset;
-use laws::types::ControlInput;
-use laws::types::FlightRegime;
-use laws::types::OptionF32;
-use laws::types::Setpoint;
-use laws::types::VehicleState;
-use laws::types::WaypointCommand;
-ghost use mathlib.Core.Path.{_≡_};
-ghost use Rattle·laws.specs.declared.types.ControlInput.the-variants.{Waypoint};
-ghost use Rattle·laws.specs.declared.types.OptionF32.the-variants.{None};
-ghost use Rattle·guidance·specs.specs.Plane as spec;
-ghost use Rattle·guidance·specs.specs.Contracts as contract;
+use laws::types::{ControlInput, FlightRegime, OptionF32, Setpoint, VehicleState, WaypointCommand};
 
 // No change to take back.
 fn no_former() -> Former
-    ensures { λ r. ⌜ r ≡ spec.noFormer ⌝ }
+    ensures { result ≡ spec.no_former }
 {
     Former {
         kept: 0,
@@ -45,7 +29,7 @@ fn no_former() -> Former
 
 // The energy state and the altitude loop as `new` makes them.
 fn cleared(g: PlaneGuidance, requested: u32) -> PlaneGuidance
-    ensures { λ r. ⌜ r ≡ spec.cleared g requested ⌝ }
+    ensures { result ≡ spec.cleared g requested }
 {
     let config = g.config;
     let altitude = PiLoop { integral: 0.0 };
@@ -61,7 +45,7 @@ fn cleared(g: PlaneGuidance, requested: u32) -> PlaneGuidance
 
 // The navigation loops are idle: they are cleared, so that waypoint flight starts fresh.
 fn commanded(g: PlaneGuidance, regime: FlightRegime, setpoint: Setpoint) -> Guided
-    ensures { λ r. ⌜ r ≡ spec.commanded g regime setpoint ⌝ }
+    ensures { result ≡ spec.commanded g regime setpoint }
 {
     Guided {
         guidance: cleared(g, regime_number(regime)),
@@ -77,7 +61,7 @@ fn obeyed(
     state: VehicleState,
     pitch_cap_rad: OptionF32,
 ) -> Guided
-    ensures { λ r. ⌜ r ≡ spec.obeyed g dt regime input state «pitch_cap_rad» ⌝ }
+    ensures { result ≡ spec.obeyed g dt regime input state pitch_cap_rad }
 {
     let config = g.config;
     let order = order_of(config, input);
@@ -89,7 +73,7 @@ fn obeyed(
 
 impl PlaneGuidance {
     pub fn new(config: PlaneGuidanceConfig) -> Created
-        ensures { λ r. ⌜ contract.Creates config r ⌝ }
+        ensures { contract.Creates config result }
     {
         let field = validate(config);
         if field == 0 {
@@ -114,7 +98,7 @@ impl PlaneGuidance {
         state: VehicleState,
         pitch_cap_rad: OptionF32,
     ) -> Guided
-        ensures { λ r. ⌜ contract.Guides self dt regime input state «pitch_cap_rad» r ⌝ }
+        ensures { contract.Guides self dt regime input state pitch_cap_rad result }
     {
         if (dt > 0.0) & is_finite(dt) {
             obeyed(self, dt, regime, input, state, pitch_cap_rad)
@@ -132,7 +116,7 @@ impl PlaneGuidance {
         state: VehicleState,
         pitch_cap_rad: OptionF32,
     ) -> Guided
-        ensures { λ r. ⌜ contract.Guides self dt regime (Waypoint w) state «pitch_cap_rad» r ⌝ }
+        ensures { contract.Guides self dt regime (Waypoint w) state pitch_cap_rad result }
     {
         if (dt > 0.0) & is_finite(dt) {
             waypoint_roll_first(self, dt, regime, w, state, pitch_cap_rad)
@@ -148,21 +132,21 @@ impl PlaneGuidance {
         input: ControlInput,
         state: VehicleState,
     ) -> Guided
-        ensures { λ r. ⌜ contract.Guides self dt regime input state None r ⌝ }
+        ensures { contract.Guides self dt regime input state None result }
     {
         self.guide_capped(dt, regime, input, state, OptionF32::None)
     }
 
     // Clears the navigation loops: integrals, demands and underspeed.
     pub fn prime(self) -> PlaneGuidance
-        ensures { λ r. ⌜ r ≡ spec.primed self ⌝ }
+        ensures { result ≡ spec.primed self }
     {
         cleared(self, self.requested)
     }
 
     // An accepted change keeps the configuration that it replaces, to be taken back.
     pub fn set_config(self, config: PlaneGuidanceConfig) -> Configured
-        ensures { λ r. ⌜ r ≡ spec.configured self config ⌝ }
+        ensures { result ≡ spec.configured self config }
     {
         let field = validate(config);
         if field == 0 {
@@ -192,7 +176,7 @@ impl PlaneGuidance {
 
     // Document 02, K11: the configuration before the last accepted change is in force again and is forgotten; the integrals stay.
     pub fn take_back(self) -> TakenBack
-        ensures { λ r. ⌜ r ≡ spec.takenBack self ⌝ }
+        ensures { result ≡ spec.taken_back self }
     {
         if self.former.kept == 0 {
             TakenBack {
@@ -218,7 +202,7 @@ impl PlaneGuidance {
 
     // As FlightModeReport::plane_only: always plane; a copter request is refused as unsupported.
     pub fn flight_mode(self) -> FlightModeReport
-        ensures { λ r. ⌜ r ≡ spec.flightMode self ⌝ }
+        ensures { result ≡ spec.flight_mode self }
     {
         if self.requested == 0 {
             FlightModeReport {
@@ -235,14 +219,14 @@ impl PlaneGuidance {
 
     // Whether the stall guard stands: underspeed, as the energy state has it.
     pub fn stall_guard(self) -> bool
-        ensures { λ r. ⌜ r ≡ spec.stallGuard self ⌝ }
+        ensures { result ≡ spec.stall_guard self }
     {
         self.tecs.underspeed != 0
     }
 
     // The configuration in force.
     pub fn config(self) -> PlaneGuidanceConfig
-        ensures { λ r. ⌜ r ≡ self .config ⌝ }
+        ensures { result ≡ self.config }
     {
         self.config
     }

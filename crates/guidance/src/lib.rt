@@ -1,4 +1,6 @@
 // The public guidance calls.
+#![tactic(auto)]
+
 mod commands;
 mod entries;
 pub mod plane;

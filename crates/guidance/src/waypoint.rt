@@ -1,46 +1,24 @@
 // A waypoint: its laws, their limits, and what it would answer and store.
-use crate::plane::Answer;
-use crate::plane::Guided;
-use crate::plane::LateralLaw;
-use crate::plane::Laws;
-use crate::plane::PlaneGuidance;
-use crate::plane::Steered;
-use crate::plane::Vertical;
-use crate::plane::VerticalLaw;
-use crate::plane::WaypointAnswer;
-use arithmetic::order::clamp;
-use arithmetic::order::greatest;
-use arithmetic::order::least;
+ghost use Rattle.std.specs.Prelude.{◌≡◌};
+ghost use Rattle.guidance.specs.Plane as spec;
+
+use crate::plane::{
+    Answer, Guided, LateralLaw, Laws, PlaneGuidance, Steered, Vertical, VerticalLaw, WaypointAnswer,
+};
+use arithmetic::order::{clamp, greatest, least};
 use arithmetic::vector::Vec2;
 use laws::config::PlaneGuidanceConfig;
 use laws::math::clamp_symmetric;
-use laws::navigation::PiLoop;
-use laws::navigation::bank_for_accel_rad;
-use laws::navigation::finite_leg;
-use laws::navigation::lateral_accel_mps2;
-use laws::navigation::pi_step;
-use laws::tecs::Inputs;
-use laws::tecs::Limits;
-use laws::tecs::Tecs;
-use laws::tecs::TecsResult;
-use laws::tecs::all_inputs_finite;
-use laws::tecs::energy_step;
-use laws::tecs::hold;
-use laws::tecs::reset;
-use laws::types::FlightRegime;
-use laws::types::OptionF32;
-use laws::types::OptionVec2;
-use laws::types::Setpoint;
-use laws::types::Vec3;
-use laws::types::VehicleState;
-use laws::types::WaypointCommand;
-use laws::types::valid_airspeed_mps;
-ghost use mathlib.Core.Path.{_≡_};
-ghost use Rattle·guidance·specs.specs.Plane as spec;
+use laws::navigation::{PiLoop, bank_for_accel_rad, finite_leg, lateral_accel_mps2, pi_step};
+use laws::tecs::{Inputs, Limits, Tecs, TecsResult, all_inputs_finite, energy_step, hold, reset};
+use laws::types::{
+    FlightRegime, OptionF32, OptionVec2, Setpoint, Vec3, VehicleState, WaypointCommand,
+    valid_airspeed_mps,
+};
 
 // 0 copter, 1 plane.
 pub fn regime_number(regime: FlightRegime) -> u32
-    ensures { λ r. ⌜ r ≡ spec.regimeNumber regime ⌝ }
+    ensures { result ≡ spec.regime_number regime }
 {
     match regime {
         FlightRegime::Copter => 0,
@@ -49,7 +27,7 @@ pub fn regime_number(regime: FlightRegime) -> u32
 }
 
 fn or_zero(x: OptionF32) -> f32
-    ensures { λ r. ⌜ r ≡ spec.orZero x ⌝ }
+    ensures { result ≡ spec.or_zero x }
 {
     match x {
         OptionF32::None => 0.0,
@@ -58,7 +36,7 @@ fn or_zero(x: OptionF32) -> f32
 }
 
 fn present(x: OptionF32) -> bool
-    ensures { λ r. ⌜ r ≡ spec.present x ⌝ }
+    ensures { result ≡ spec.present x }
 {
     match x {
         OptionF32::None => false,
@@ -67,7 +45,7 @@ fn present(x: OptionF32) -> bool
 }
 
 fn bad_cap(cap: OptionF32) -> bool
-    ensures { λ r. ⌜ r ≡ spec.badCap cap ⌝ }
+    ensures { result ≡ spec.bad_cap cap }
 {
     match cap {
         OptionF32::None => false,
@@ -76,7 +54,7 @@ fn bad_cap(cap: OptionF32) -> bool
 }
 
 fn lateral_of(idle: bool, leg: OptionVec2) -> LateralLaw
-    ensures { λ r. ⌜ r ≡ spec.lateralOf idle leg ⌝ }
+    ensures { result ≡ spec.lateral_of idle leg }
 {
     if idle {
         return LateralLaw::Idle;
@@ -88,13 +66,13 @@ fn lateral_of(idle: bool, leg: OptionVec2) -> LateralLaw
 }
 
 fn on_energy_path(w: WaypointCommand, state: VehicleState) -> bool
-    ensures { λ r. ⌜ r ≡ spec.onEnergyPath w state ⌝ }
+    ensures { result ≡ spec.on_energy_path w state }
 {
     (w.cruise_speed_mps > 0.0) & present(valid_airspeed_mps(state))
 }
 
 fn inputs_of(dt: f32, w: WaypointCommand, state: VehicleState) -> Inputs
-    ensures { λ r. ⌜ r ≡ spec.inputs dt w state ⌝ }
+    ensures { result ≡ spec.inputs dt w state }
 {
     Inputs {
         dt,
@@ -108,7 +86,7 @@ fn inputs_of(dt: f32, w: WaypointCommand, state: VehicleState) -> Inputs
 }
 
 fn vertical_law(dt: f32, w: WaypointCommand, state: VehicleState) -> VerticalLaw
-    ensures { λ r. ⌜ r ≡ spec.verticalLaw dt w state ⌝ }
+    ensures { result ≡ spec.vertical_law dt w state }
 {
     if on_energy_path(w, state) {
         if all_inputs_finite(inputs_of(dt, w, state)) {
@@ -123,7 +101,7 @@ fn vertical_law(dt: f32, w: WaypointCommand, state: VehicleState) -> VerticalLaw
 
 // A pitch limit under a cap, where there is one.
 fn capped(limit_rad: f32, cap: OptionF32) -> f32
-    ensures { λ r. ⌜ r ≡ spec.capped «limit_rad» cap ⌝ }
+    ensures { result ≡ spec.capped limit_rad cap }
 {
     match cap {
         OptionF32::None => limit_rad,
@@ -132,7 +110,7 @@ fn capped(limit_rad: f32, cap: OptionF32) -> f32
 }
 
 fn limits_of(config: PlaneGuidanceConfig, cap: OptionF32) -> Limits
-    ensures { λ r. ⌜ r ≡ spec.limitsOf config cap ⌝ }
+    ensures { result ≡ spec.limits_of config cap }
 {
     Limits {
         pitch_up_rad: capped(config.max_pitch_up_rad, cap),
@@ -145,14 +123,14 @@ fn limits_of(config: PlaneGuidanceConfig, cap: OptionF32) -> Limits
 }
 
 fn north_east(v: Vec3) -> Vec2
-    ensures { λ r. ⌜ r ≡ spec.northEast v ⌝ }
+    ensures { result ≡ spec.north_east v }
 {
     Vec2 { x: v.x, y: v.y }
 }
 
 // The name of the lateral law, by what the law answers, its bank and the distance off its line.
 fn steered(config: PlaneGuidanceConfig, w: WaypointCommand, state: VehicleState) -> Steered
-    ensures { λ r. ⌜ r ≡ spec.steered config w state ⌝ }
+    ensures { result ≡ spec.steered config w state }
 {
     let leg_mps = w.velocity_mps;
     let position_m = state.position_m;
@@ -177,7 +155,7 @@ fn steered(config: PlaneGuidanceConfig, w: WaypointCommand, state: VehicleState)
 
 // On the energy path the altitude loop is cleared.
 fn on_path(o: TecsResult) -> Vertical
-    ensures { λ r. ⌜ r ≡ spec.onPath o ⌝ }
+    ensures { result ≡ spec.on_path o }
 {
     let tecs = o.tecs;
     Vertical {
@@ -197,7 +175,7 @@ fn fallback(
     state: VehicleState,
     cap: OptionF32,
 ) -> Vertical
-    ensures { λ r. ⌜ r ≡ spec.fallback config altitude dt w state cap ⌝ }
+    ensures { result ≡ spec.fallback config altitude dt w state cap }
 {
     let limits = limits_of(config, cap);
     let trim = config.trim_pitch_rad;
@@ -234,7 +212,7 @@ fn vertical_of(
     state: VehicleState,
     cap: OptionF32,
 ) -> Vertical
-    ensures { λ r. ⌜ r ≡ spec.vertical law config altitude tecs dt w state cap ⌝ }
+    ensures { result ≡ spec.vertical law config altitude tecs dt w state cap }
 {
     match law {
         VerticalLaw::Energy => {
@@ -248,7 +226,7 @@ fn vertical_of(
 
 // x - x is +0 for a finite x and NaN otherwise, and a sum of these is 0 exactly where each is.
 fn all_finite(v: Vertical) -> bool
-    ensures { λ r. ⌜ r ≡ spec.allFinite v ⌝ }
+    ensures { result ≡ spec.all_finite v }
 {
     let t = v.tecs;
     let d = t.demand;
@@ -270,7 +248,7 @@ fn all_finite(v: Vertical) -> bool
 
 // A refusal returns the guidance as it was.
 pub fn refusal(g: PlaneGuidance, number: u32) -> Guided
-    ensures { λ r. ⌜ r ≡ spec.refusal g number ⌝ }
+    ensures { result ≡ spec.refusal g number }
 {
     Guided {
         guidance: g,
@@ -286,7 +264,7 @@ fn flown(
     law: VerticalLaw,
     v: Vertical,
 ) -> Guided
-    ensures { λ r. ⌜ r ≡ spec.flown g regime lateral law v ⌝ }
+    ensures { result ≡ spec.flown g regime lateral law v }
 {
     let config = g.config;
     let former = g.former;
@@ -327,7 +305,7 @@ fn settled(
     law: VerticalLaw,
     v: Vertical,
 ) -> Guided
-    ensures { λ r. ⌜ r ≡ spec.settled g regime lateral law v ⌝ }
+    ensures { result ≡ spec.settled g regime lateral law v }
 {
     if all_finite(v) {
         flown(g, regime, lateral, law, v)
@@ -344,7 +322,7 @@ pub fn waypoint(
     state: VehicleState,
     cap: OptionF32,
 ) -> Guided
-    ensures { λ r. ⌜ r ≡ spec.waypoint g dt regime w state cap ⌝ }
+    ensures { result ≡ spec.waypoint g dt regime w state cap }
 {
     if bad_cap(cap) {
         return refusal(g, 3);
@@ -369,7 +347,7 @@ pub fn waypoint_roll_first(
     state: VehicleState,
     cap: OptionF32,
 ) -> Guided
-    ensures { λ r. ⌜ r ≡ spec.waypoint g dt regime w state cap ⌝ }
+    ensures { result ≡ spec.waypoint g dt regime w state cap }
 {
     if bad_cap(cap) {
         return refusal(g, 3);

@@ -1,24 +1,16 @@
 // A row's call: its configuration, or its command and sensors.
-use crate::rows::number;
-use crate::rows::word;
-use arithmetic::vector::Vec2;
-use laws::config::PlaneGuidanceConfig;
-use laws::config::TecsConfig;
-use laws::types::AbsoluteAttitudeCommand;
-use laws::types::AbsoluteRateCommand;
-use laws::types::AttitudeCommand;
-use laws::types::ControlInput;
-use laws::types::FlightRegime;
-use laws::types::OptionF32;
-use laws::types::OptionVec2;
-use laws::types::RateCommand;
-use laws::types::Vec3;
-use laws::types::VehicleState;
-use laws::types::WaypointCommand;
-ghost use Prim.Native.Nat.{_≤_};
+ghost use Rattle.std.specs.Prelude.{◌≤◌};
 
-fn vec2(row: &[u8; 224], n: usize) -> Vec2
-    requires { ⌜ n ≤ 51 ⌝ }
+use crate::rows::{number, word};
+use arithmetic::vector::Vec2;
+use laws::config::{PlaneGuidanceConfig, TecsConfig};
+use laws::types::{
+    AbsoluteAttitudeCommand, AbsoluteRateCommand, AttitudeCommand, ControlInput, FlightRegime,
+    OptionF32, OptionVec2, RateCommand, Vec3, VehicleState, WaypointCommand,
+};
+
+fn vec2(row: &[u8; 212], n: usize) -> Vec2
+    requires { n ≤ 51 }
 {
     Vec2 {
         x: number(row, n),
@@ -26,8 +18,8 @@ fn vec2(row: &[u8; 224], n: usize) -> Vec2
     }
 }
 
-fn vec3(row: &[u8; 224], n: usize) -> Vec3
-    requires { ⌜ n ≤ 50 ⌝ }
+fn vec3(row: &[u8; 212], n: usize) -> Vec3
+    requires { n ≤ 50 }
 {
     Vec3 {
         x: number(row, n),
@@ -37,8 +29,8 @@ fn vec3(row: &[u8; 224], n: usize) -> Vec3
 }
 
 // A number that may be missing: a word that says so, and the number.
-pub fn option(row: &[u8; 224], n: usize) -> OptionF32
-    requires { ⌜ n ≤ 51 ⌝ }
+pub fn option(row: &[u8; 212], n: usize) -> OptionF32
+    requires { n ≤ 51 }
 {
     if word(row, n) == 0 {
         OptionF32::None
@@ -47,7 +39,7 @@ pub fn option(row: &[u8; 224], n: usize) -> OptionF32
     }
 }
 
-fn leg(row: &[u8; 224]) -> OptionVec2 {
+fn leg(row: &[u8; 212]) -> OptionVec2 {
     if word(row, 9) == 0 {
         OptionVec2::None
     } else {
@@ -56,7 +48,7 @@ fn leg(row: &[u8; 224]) -> OptionVec2 {
 }
 
 // Fields 15 to 30.
-fn tecs_config(row: &[u8; 224]) -> TecsConfig {
+fn tecs_config(row: &[u8; 212]) -> TecsConfig {
     TecsConfig {
         time_constant_s: number(row, 15),
         max_climb_mps: number(row, 16),
@@ -78,7 +70,7 @@ fn tecs_config(row: &[u8; 224]) -> TecsConfig {
 }
 
 // Word n is field n.
-pub fn config(row: &[u8; 224]) -> PlaneGuidanceConfig {
+pub fn config(row: &[u8; 212]) -> PlaneGuidanceConfig {
     PlaneGuidanceConfig {
         max_bank_rad: number(row, 1),
         max_pitch_up_rad: number(row, 2),
@@ -99,7 +91,7 @@ pub fn config(row: &[u8; 224]) -> PlaneGuidanceConfig {
     }
 }
 
-pub fn regime(row: &[u8; 224]) -> FlightRegime {
+pub fn regime(row: &[u8; 212]) -> FlightRegime {
     if word(row, 1) == 0 {
         FlightRegime::Copter
     } else {
@@ -107,7 +99,7 @@ pub fn regime(row: &[u8; 224]) -> FlightRegime {
     }
 }
 
-fn attitude(row: &[u8; 224]) -> AttitudeCommand {
+fn attitude(row: &[u8; 212]) -> AttitudeCommand {
     AttitudeCommand {
         throttle: number(row, 5),
         roll: number(row, 3),
@@ -115,7 +107,7 @@ fn attitude(row: &[u8; 224]) -> AttitudeCommand {
     }
 }
 
-fn rate(row: &[u8; 224]) -> RateCommand {
+fn rate(row: &[u8; 212]) -> RateCommand {
     RateCommand {
         throttle: number(row, 6),
         roll_rate: number(row, 3),
@@ -124,7 +116,7 @@ fn rate(row: &[u8; 224]) -> RateCommand {
     }
 }
 
-fn waypoint(row: &[u8; 224]) -> WaypointCommand {
+fn waypoint(row: &[u8; 212]) -> WaypointCommand {
     WaypointCommand {
         position_m: vec2(row, 7),
         velocity_mps: leg(row),
@@ -133,7 +125,7 @@ fn waypoint(row: &[u8; 224]) -> WaypointCommand {
     }
 }
 
-fn absolute_attitude(row: &[u8; 224]) -> AbsoluteAttitudeCommand {
+fn absolute_attitude(row: &[u8; 212]) -> AbsoluteAttitudeCommand {
     AbsoluteAttitudeCommand {
         roll_rad: number(row, 3),
         pitch_rad: number(row, 4),
@@ -141,7 +133,7 @@ fn absolute_attitude(row: &[u8; 224]) -> AbsoluteAttitudeCommand {
     }
 }
 
-fn absolute_rate(row: &[u8; 224]) -> AbsoluteRateCommand {
+fn absolute_rate(row: &[u8; 212]) -> AbsoluteRateCommand {
     AbsoluteRateCommand {
         roll_radps: number(row, 3),
         pitch_radps: number(row, 4),
@@ -151,7 +143,7 @@ fn absolute_rate(row: &[u8; 224]) -> AbsoluteRateCommand {
 }
 
 // The command of kind 1 to 6.
-pub fn input(row: &[u8; 224]) -> ControlInput {
+pub fn input(row: &[u8; 212]) -> ControlInput {
     match word(row, 0) {
         1 => ControlInput::Attitude(attitude(row)),
         2 => ControlInput::Rate(rate(row)),
@@ -162,7 +154,7 @@ pub fn input(row: &[u8; 224]) -> ControlInput {
     }
 }
 
-pub fn sensors(row: &[u8; 224]) -> VehicleState {
+pub fn sensors(row: &[u8; 212]) -> VehicleState {
     VehicleState {
         position_m: vec3(row, 14),
         velocity_mps: vec3(row, 17),

@@ -1,23 +1,15 @@
 // Runs a row's call, and says whether the answer and the stored state are the row's.
 use crate::calls;
-use crate::rows::number;
-use crate::rows::same;
-use crate::rows::word;
-use crate::settings::sum;
-use guidance::plane::Answer;
-use guidance::plane::Created;
-use guidance::plane::FlightMode;
-use guidance::plane::FlightModeReport;
-use guidance::plane::Guided;
-use guidance::plane::LateralLaw;
-use guidance::plane::Laws;
-use guidance::plane::ModeRefusal;
-use guidance::plane::PlaneGuidance;
-use guidance::plane::VerticalLaw;
+use crate::rows::{number, same, word};
+use guidance::plane::{
+    Answer, Created, FlightMode, FlightModeReport, Guided, LateralLaw, Laws, ModeRefusal,
+    PlaneGuidance, VerticalLaw,
+};
 use laws::tecs::Tecs;
 use laws::types::Setpoint;
 
 // The guidance after a row's call, and whether all was as the row says.
+#[derive(Clone, Copy)]
 pub struct Checked {
     pub guidance: PlaneGuidance,
     pub right: bool,
@@ -39,13 +31,13 @@ fn vertical_number(law: VerticalLaw) -> u32 {
     }
 }
 
-fn laws_right(row: &[u8; 224], laws: Laws) -> bool {
+fn laws_right(row: &[u8; 212], laws: Laws) -> bool {
     let lateral = laws.lateral;
     let vertical = laws.vertical;
     (word(row, 35) == lateral_number(lateral)) & (word(row, 36) == vertical_number(vertical))
 }
 
-fn setpoint_right(row: &[u8; 224], setpoint: Setpoint) -> bool {
+fn setpoint_right(row: &[u8; 212], setpoint: Setpoint) -> bool {
     match setpoint {
         Setpoint::Plane {
             roll_rad,
@@ -72,7 +64,7 @@ fn setpoint_right(row: &[u8; 224], setpoint: Setpoint) -> bool {
     }
 }
 
-fn answer_right(row: &[u8; 224], answer: Answer) -> bool {
+fn answer_right(row: &[u8; 212], answer: Answer) -> bool {
     match answer {
         Answer::Refused(n) => (word(row, 34) == n) & (n != 0),
         Answer::Commanded(setpoint) => {
@@ -90,7 +82,7 @@ fn answer_right(row: &[u8; 224], answer: Answer) -> bool {
 }
 
 // Flags are 0 or 1.
-fn tecs_right(row: &[u8; 224], t: Tecs) -> bool {
+fn tecs_right(row: &[u8; 212], t: Tecs) -> bool {
     (word(row, 44) == t.seeded)
         & same(row, 45, t.demand.slewed_height_m)
         & same(row, 46, t.demand.height_m)
@@ -117,29 +109,18 @@ fn refusal_number(refusal: ModeRefusal) -> u32 {
 }
 
 // Whether the mode report after a call is the Rust's.
-fn mode_right(row: &[u8; 224], report: FlightModeReport) -> bool {
+fn mode_right(row: &[u8; 212], report: FlightModeReport) -> bool {
     let mode = report.mode;
     let refusal = report.refusal;
     (word(row, 25) == mode_number(mode)) & (word(row, 26) == refusal_number(refusal))
 }
 
-// Whether a configuration is kept to be taken back, the one in force and the kept one.
-fn settings_right(row: &[u8; 224], g: PlaneGuidance) -> bool {
-    let former = g.former;
-    (word(row, 53) == former.kept)
-        & (word(row, 54) == sum(g.config))
-        & (word(row, 55) == sum(former.config))
-}
-
-fn state_right(row: &[u8; 224], g: PlaneGuidance) -> bool {
+fn state_right(row: &[u8; 212], g: PlaneGuidance) -> bool {
     let t = g.tecs;
-    (word(row, 42) == g.requested)
-        & same(row, 43, g.altitude.integral)
-        & tecs_right(row, t)
-        & settings_right(row, g)
+    (word(row, 42) == g.requested) & same(row, 43, g.altitude.integral) & tecs_right(row, t)
 }
 
-fn created(row: &[u8; 224], g: PlaneGuidance) -> Checked {
+fn created(row: &[u8; 212], g: PlaneGuidance) -> Checked {
     let made = PlaneGuidance::new(calls::config(row));
     match made {
         Created::Refused(field) => Checked {
@@ -154,7 +135,7 @@ fn created(row: &[u8; 224], g: PlaneGuidance) -> Checked {
 }
 
 // The stall guard stands where the oracle's stored underspeed does.
-fn guard_right(row: &[u8; 224], stands: bool) -> bool {
+fn guard_right(row: &[u8; 212], stands: bool) -> bool {
     if stands {
         word(row, 52) != 0
     } else {
@@ -162,7 +143,7 @@ fn guard_right(row: &[u8; 224], stands: bool) -> bool {
     }
 }
 
-fn primed(row: &[u8; 224], g: PlaneGuidance) -> Checked {
+fn primed(row: &[u8; 212], g: PlaneGuidance) -> Checked {
     let h = g.prime();
     Checked {
         guidance: h,
@@ -172,7 +153,7 @@ fn primed(row: &[u8; 224], g: PlaneGuidance) -> Checked {
     }
 }
 
-fn configured(row: &[u8; 224], g: PlaneGuidance) -> Checked {
+fn configured(row: &[u8; 212], g: PlaneGuidance) -> Checked {
     let set = g.set_config(calls::config(row));
     let h = set.guidance;
     Checked {
@@ -181,7 +162,7 @@ fn configured(row: &[u8; 224], g: PlaneGuidance) -> Checked {
     }
 }
 
-fn taken_back(row: &[u8; 224], g: PlaneGuidance) -> Checked {
+fn taken_back(row: &[u8; 212], g: PlaneGuidance) -> Checked {
     let back = g.take_back();
     let h = back.guidance;
     Checked {
@@ -191,7 +172,7 @@ fn taken_back(row: &[u8; 224], g: PlaneGuidance) -> Checked {
 }
 
 // `guide` where the row has no cap.
-fn answered(row: &[u8; 224], g: PlaneGuidance) -> Guided {
+fn answered(row: &[u8; 212], g: PlaneGuidance) -> Guided {
     let dt = number(row, 2);
     let regime = calls::regime(row);
     let input = calls::input(row);
@@ -203,7 +184,7 @@ fn answered(row: &[u8; 224], g: PlaneGuidance) -> Guided {
     }
 }
 
-fn guided(row: &[u8; 224], g: PlaneGuidance) -> Checked {
+fn guided(row: &[u8; 212], g: PlaneGuidance) -> Checked {
     let o = answered(row, g);
     let h = o.guidance;
     let answer = o.answer;
@@ -216,7 +197,7 @@ fn guided(row: &[u8; 224], g: PlaneGuidance) -> Checked {
     }
 }
 
-pub fn try_call(row: &[u8; 224], g: PlaneGuidance) -> Checked {
+pub fn try_call(row: &[u8; 212], g: PlaneGuidance) -> Checked {
     match word(row, 0) {
         0 => primed(row, g),
         7 => configured(row, g),

@@ -1,21 +1,23 @@
 // Replays the oracle's fixed list, as tools/vectors/guidance.py writes it, and counts the rows whose answer and stored state are
 // the row's, bit for bit, every NaN alike.
+#![tactic(auto)]
+
 mod calls;
 mod check;
 mod rows;
-mod settings;
 
-use case_rows::Count;
-use case_rows::plus;
-use case_rows::print_count;
-use guidance::plane::Former;
-use guidance::plane::PlaneGuidance;
-use laws::config;
+ghost use Rattle.std.specs.Prelude.{◌≤◌, IfOk};
+
+use case_rows::{Count, plus, print_count, read_full};
+use guidance::plane::{Former, PlaneGuidance};
 use laws::navigation::PiLoop;
-use laws::tecs;
-ghost use Prim.Native.Nat.{_≤_};
+use laws::{config, tecs};
+use std::io::Read;
+use std::rt::Files;
+use std::{fs, io};
 
 // Whether there was a row, 1 if all was right, and the guidance for the next row.
+#[derive(Clone, Copy)]
 struct Tried {
     found: bool,
     right: u32,
@@ -37,75 +39,76 @@ fn start() -> PlaneGuidance {
 }
 
 // Reads a row and tries it. A row that is cut short is not right.
-fn try_row(file: i32, g: PlaneGuidance) -> Tried
-    ensures { λ r. ⌜ r .right ≤ 1 ⌝ }
+fn try_row<F: Read>(file: &mut F, g: PlaneGuidance) -> io::Result<Tried>
+    ensures { IfOk result (λ tried. tried.right ≤ 1) }
 {
-    let mut row = [0u8; 224];
-    let n = io::read_full(file, &mut row);
-    if n == 224 {
+    let mut row = [0u8; 212];
+    let n = read_full(file, &mut row)?;
+    if n == 212 {
         let o = check::try_call(&row, g);
         let guidance = o.guidance;
         let right: u32 = if o.right { 1 } else { 0 };
-        return Tried {
+        return Ok(Tried {
             found: true,
             right,
             guidance,
-        };
+        });
     }
-    Tried {
+    Ok(Tried {
         found: n > 0,
         right: 0,
         guidance: g,
-    }
+    })
 }
 
 // Tries the rows of a file, at most 100,000: a proved loop has to end.
-fn try_rows(file: i32) -> Count {
+fn try_rows<F: Read>(file: &mut F) -> io::Result<Count> {
     let mut rows: u32 = 0;
     let mut right: u32 = 0;
-    let mut tried = try_row(file, start());
+    let mut tried = try_row(file, start())?;
     while rows < 100000 && tried.found {
         rows += 1;
         right += tried.right;
         let g = tried.guidance;
-        tried = try_row(file, g);
+        tried = try_row(file, g)?;
     }
-    Count { rows, right }
+    Ok(Count { rows, right })
 }
 
 // Tries the rows of one file, prints the count under the file's name, and adds it to the count before.
-fn try_group(name: &[u8], before: Count) -> Count {
-    let file = os::open_read(name);
-    if file < 0 {
-        os::fail(name);
-        return before;
-    }
-    let count = try_rows(file);
-    libc::close(file);
-    print_count(name, count);
-    plus(before, count)
+fn try_group<R: Files + Print + Eprint>(rt: &R, name: &str, before: Count) -> io::Result<Count> {
+    let mut file = match fs::open(rt, name) {
+        Ok(file) => file,
+        Err(e) => {
+            eprintln!(rt; "{name}: {e}")?;
+            return Ok(before);
+        }
+    };
+    let count = try_rows(&mut file)?;
+    print_count(rt, name.as_bytes(), count)?;
+    Ok(plus(before, count))
 }
 
-fn main() {
+fn main(rt: HostRuntime) -> io::Result<()> {
     let mut total = Count { rows: 0, right: 0 };
-    total = try_group(b"configurations", total);
-    total = try_group(b"past_the_limit", total);
-    total = try_group(b"airspeed_1e30_weight_0", total);
-    total = try_group(b"airspeed_1e30", total);
-    total = try_group(b"caps", total);
-    total = try_group(b"desk_example", total);
-    total = try_group(b"holds", total);
-    total = try_group(b"idle", total);
-    total = try_group(b"off", total);
-    total = try_group(b"refusals", total);
-    total = try_group(b"speed_demand", total);
-    total = try_group(b"sticks", total);
-    total = try_group(b"ties_by_hand", total);
-    total = try_group(b"underspeed", total);
-    total = try_group(b"flights", total);
-    total = try_group(b"settings", total);
-    total = try_group(b"takings_back", total);
-    total = try_group(b"ties", total);
-    total = try_group(b"wild", total);
-    print_count(b"total", total);
+    total = try_group(&rt, "configurations", total)?;
+    total = try_group(&rt, "past_the_limit", total)?;
+    total = try_group(&rt, "airspeed_1e30_weight_0", total)?;
+    total = try_group(&rt, "airspeed_1e30", total)?;
+    total = try_group(&rt, "caps", total)?;
+    total = try_group(&rt, "desk_example", total)?;
+    total = try_group(&rt, "holds", total)?;
+    total = try_group(&rt, "idle", total)?;
+    total = try_group(&rt, "off", total)?;
+    total = try_group(&rt, "refusals", total)?;
+    total = try_group(&rt, "speed_demand", total)?;
+    total = try_group(&rt, "sticks", total)?;
+    total = try_group(&rt, "ties_by_hand", total)?;
+    total = try_group(&rt, "underspeed", total)?;
+    total = try_group(&rt, "flights", total)?;
+    total = try_group(&rt, "settings", total)?;
+    total = try_group(&rt, "takings_back", total)?;
+    total = try_group(&rt, "ties", total)?;
+    total = try_group(&rt, "wild", total)?;
+    print_count(&rt, b"total", total)
 }

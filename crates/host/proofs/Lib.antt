@@ -1,2 +1,2 @@
--- What the walk of `nuthkolla_run` cites.
+-- What the proof of `nuthkolla_run` cites.
 pub mod Kept

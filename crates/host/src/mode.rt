@@ -1,21 +1,21 @@
 // The reports of a guidance, the mode and the stall guard, by a caller. The guidance comes by value: no report changes it.
-use guidance::plane::ModeRefusal;
-use guidance::plane::PlaneGuidance;
-use rights::Deed;
-use rights::may;
-ghost use mathlib.Core.Path.{_≡_};
-ghost use Rattle·host·specs.specs.Mode as spec;
+ghost use Rattle.std.specs.Prelude.{◌≡◌};
+ghost use Rattle.host.specs.Mode as spec;
+
+use guidance::plane::{ModeRefusal, PlaneGuidance};
+use rights::{Deed, may};
 
 // refusal: 0 or the refusal's number; value: of the mode 0, or 1 where the request is unsupported (always plane); of the stall
 // guard 1 where it stands, else 0. Refused, the value is 0.
 #[repr(C)]
+#[derive(Clone, Copy)]
 pub struct Report {
     pub refusal: u32,
     pub value: u32,
 }
 
 fn mode_value(g: PlaneGuidance) -> u32
-    ensures { λ r. ⌜ r ≡ spec.modeValue g ⌝ }
+    ensures { result ≡ spec.mode_value g }
 {
     let report = g.flight_mode();
     let refusal = report.refusal;
@@ -26,13 +26,13 @@ fn mode_value(g: PlaneGuidance) -> u32
 }
 
 fn guard_value(g: PlaneGuidance) -> u32
-    ensures { λ r. ⌜ r ≡ spec.guardValue g ⌝ }
+    ensures { result ≡ spec.guard_value g }
 {
     if g.stall_guard() { 1 } else { 0 }
 }
 
 fn deed_of(what: u32) -> Deed
-    ensures { λ r. ⌜ r ≡ spec.deedOf what ⌝ }
+    ensures { result ≡ spec.deed_of what }
 {
     if what == 0 {
         return Deed::ModeReport;
@@ -44,7 +44,7 @@ fn deed_of(what: u32) -> Deed
 }
 
 fn reported(g: PlaneGuidance, what: u32) -> Report
-    ensures { λ r. ⌜ r ≡ spec.reported g what ⌝ }
+    ensures { result ≡ spec.reported g what }
 {
     if what == 0 {
         return Report {
@@ -65,9 +65,8 @@ fn reported(g: PlaneGuidance, what: u32) -> Report
 }
 
 // what: 0 the mode, 1 the stall guard. Number 13 comes first; 255 for any other number.
-#[no_mangle]
-pub extern "C" fn nuthkolla_report(guidance: PlaneGuidance, caller: u32, what: u32) -> Report
-    ensures { λ r. ⌜ r ≡ spec.reportBy guidance caller what ⌝ }
+pub fn nuthkolla_report(guidance: PlaneGuidance, caller: u32, what: u32) -> Report
+    ensures { result ≡ spec.report_by guidance caller what }
 {
     if may(caller, deed_of(what)) {
         return reported(guidance, what);

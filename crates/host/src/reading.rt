@@ -1,13 +1,13 @@
 // A configuration's record read for a host. Calls are read by `nuthkolla_run`.
-use laws::config::PlaneGuidanceConfig;
-use laws::config::default;
-use records::config::ReadConfig;
-use records::config::read_config;
-ghost use mathlib.Core.Path.{_≡_};
-ghost use Rattle·host·specs.specs.Reading as spec;
+ghost use Rattle.std.specs.Prelude.{◌≡◌};
+ghost use Rattle.host.specs.Reading as spec;
+
+use laws::config::{PlaneGuidanceConfig, default};
+use records::config::{ReadConfig, read_config};
 
 // A configuration that was read; the defaults where it was refused.
 #[repr(C)]
+#[derive(Clone, Copy)]
 pub struct ConfigRead {
     pub refusal: u32,
     pub next: usize,
@@ -15,9 +15,8 @@ pub struct ConfigRead {
 }
 
 // Reads a configuration's record at a place, without judging its numbers.
-#[no_mangle]
-pub extern "C" fn nuthkolla_read_config(bytes: &[u8], at: usize) -> ConfigRead
-    ensures { λ r. ⌜ r ≡ spec.configRead (now (bytes .entry)) at ⌝ }
+pub fn nuthkolla_read_config(bytes: &[u8], at: usize) -> ConfigRead
+    ensures { result ≡ spec.config_read bytes.now at }
 {
     let read = read_config(bytes, at);
     match read {

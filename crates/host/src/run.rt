@@ -1,30 +1,25 @@
 // The thin entry, by reference: the host's guidance is taken apart, `call_by` or `change_by` does the work by value, and the fields
 // that it may have changed are put back.
+ghost use Rattle.std.specs.Prelude.{◌≡◌};
+ghost use Rattle.host.specs.Run as spec;
+ghost use Rattle.host.specs.Code.Dispatch as code;
+
 use calls::perform;
-use guidance::plane::Created;
-use guidance::plane::PlaneGuidance;
-use host_answers::answer::RunAnswer;
-use host_answers::answer::bare;
-use host_answers::answer::of_field;
-use host_answers::answer::of_reply;
-use records::call::ReadCall;
-use records::call::read_call;
-use records::config::ReadConfig;
-use records::config::read_config;
-use rights::Deed;
-use rights::may;
-ghost use mathlib.Core.Path.{_≡_};
-ghost use Rattle·host·specs.specs.Run as spec;
-ghost use Rattle·host·specs.specs.code.Dispatch as code;
+use guidance::plane::{Created, PlaneGuidance};
+use host_answers::answer::{RunAnswer, bare, of_field, of_reply};
+use records::call::{ReadCall, read_call};
+use records::config::{ReadConfig, read_config};
+use rights::{Deed, may};
 
 // The guidance after a call, and the call's answer.
+#[derive(Clone, Copy)]
 pub struct Ran {
     pub guidance: PlaneGuidance,
     pub answer: RunAnswer,
 }
 
 fn run_call(g: PlaneGuidance, bytes: &[u8]) -> Ran
-    ensures { λ r. ⌜ r ≡ spec.runCall g (now (bytes .entry)) ⌝ }
+    ensures { result ≡ spec.run_call g bytes.now }
 {
     let read = read_call(bytes, 0);
     match read {
@@ -45,7 +40,7 @@ fn run_call(g: PlaneGuidance, bytes: &[u8]) -> Ran
 }
 
 fn run_config(g: PlaneGuidance, bytes: &[u8]) -> Ran
-    ensures { λ r. ⌜ r ≡ spec.runConfig g (now (bytes .entry)) ⌝ }
+    ensures { result ≡ spec.run_config g bytes.now }
 {
     let read = read_config(bytes, 0);
     match read {
@@ -66,7 +61,7 @@ fn run_config(g: PlaneGuidance, bytes: &[u8]) -> Ran
 
 // The guidance that `new` made, or the one that was there.
 fn made(g: PlaneGuidance, created: Created, next: usize) -> Ran
-    ensures { λ r. ⌜ r ≡ spec.made g created next ⌝ }
+    ensures { result ≡ spec.made g created next }
 {
     match created {
         Created::Refused(field) => Ran {
@@ -81,7 +76,7 @@ fn made(g: PlaneGuidance, created: Created, next: usize) -> Ran
 }
 
 fn run_new(g: PlaneGuidance, bytes: &[u8]) -> Ran
-    ensures { λ r. ⌜ r ≡ spec.runNew g (now (bytes .entry)) ⌝ }
+    ensures { result ≡ spec.run_new g bytes.now }
 {
     let read = read_config(bytes, 0);
     match read {
@@ -95,7 +90,7 @@ fn run_new(g: PlaneGuidance, bytes: &[u8]) -> Ran
 
 // A change taken back (document 02, K11); no byte is read.
 fn run_back(g: PlaneGuidance) -> Ran
-    ensures { λ r. ⌜ r ≡ spec.runBack g ⌝ }
+    ensures { result ≡ spec.run_back g }
 {
     let done = g.take_back();
     let guidance = done.guidance;
@@ -107,7 +102,7 @@ fn run_back(g: PlaneGuidance) -> Ran
 
 // Any number but 0; one that no call has is refused.
 fn change(g: PlaneGuidance, what: u32, bytes: &[u8]) -> Ran
-    ensures { λ r. ⌜ r ≡ code.change g what (now (bytes .entry)) ⌝ }
+    ensures { result ≡ code.change g what bytes.now }
 {
     if what == 1 {
         return run_config(g, bytes);
@@ -126,7 +121,7 @@ fn change(g: PlaneGuidance, what: u32, bytes: &[u8]) -> Ran
 
 // A call record is a guide or a prime, which the same callers may do: the right is judged before a byte is read.
 fn may_run(caller: u32, what: u32) -> bool
-    ensures { λ r. ⌜ r ≡ spec.mayRun caller what ⌝ }
+    ensures { result ≡ spec.may_run caller what }
 {
     if what == 0 {
         return may(caller, Deed::Guide);
@@ -145,7 +140,7 @@ fn may_run(caller: u32, what: u32) -> bool
 
 // Number 13 comes first, here and below.
 pub fn call_by(g: PlaneGuidance, caller: u32, bytes: &[u8]) -> Ran
-    ensures { λ r. ⌜ r ≡ spec.runBy g caller 0 (now (bytes .entry)) ⌝ }
+    ensures { result ≡ spec.run_by g caller 0 bytes.now }
 {
     if may(caller, Deed::Guide) {
         return run_call(g, bytes);
@@ -157,7 +152,7 @@ pub fn call_by(g: PlaneGuidance, caller: u32, bytes: &[u8]) -> Ran
 }
 
 pub fn change_by(g: PlaneGuidance, caller: u32, what: u32, bytes: &[u8]) -> Ran
-    ensures { λ r. ⌜ r ≡ code.changeBy g caller what (now (bytes .entry)) ⌝ }
+    ensures { result ≡ code.change_by g caller what bytes.now }
 {
     if may_run(caller, what) {
         return change(g, what, bytes);
@@ -170,14 +165,13 @@ pub fn change_by(g: PlaneGuidance, caller: u32, what: u32, bytes: &[u8]) -> Ran
 
 // A call changes no configuration, neither the one in force nor the kept one, so they are not put back; and since calls have a branch
 // of their own, the kept one is not even read.
-#[no_mangle]
-pub extern "C" fn nuthkolla_run(
+pub fn nuthkolla_run(
     guidance: &mut PlaneGuidance,
     caller: u32,
     what: u32,
     bytes: &[u8],
 ) -> RunAnswer
-    ensures { λ r. ⌜ (now (guidance .exit) ≡ spec.runBy (now (guidance .entry)) caller what (now (bytes .entry)) .guidance) × (r ≡ spec.runBy (now (guidance .entry)) caller what (now (bytes .entry)) .answer) ⌝ }
+    ensures { (guidance.new ≡ (spec.run_by guidance.old caller what bytes.now).guidance) × (result ≡ (spec.run_by guidance.old caller what bytes.now).answer) }
 {
     let g = PlaneGuidance {
         config: guidance.config,

@@ -1,18 +1,17 @@
 // Records written for a host.
-use call_numbers::CallNumbers;
-use call_numbers::call_of;
-use host_answers::place::Place;
-use host_answers::place::place_of;
+ghost use Rattle.std.specs.Prelude.{◌≡◌};
+ghost use Rattle.host.specs.Writing as spec;
+
+use call_numbers::{CallNumbers, call_of};
+use host_answers::place::{Place, place_of};
 use laws::config::PlaneGuidanceConfig;
 use records::call_writer::write_call;
 use records::config::write_config;
-ghost use mathlib.Core.Path.{_≡_};
-ghost use Rattle·host·specs.specs.Writing as spec;
 
 // Writes a call's record at a place; number 7 for a kind above 6 or a regime above 1, number 8 for too little room.
-#[no_mangle]
-pub extern "C" fn nuthkolla_write_call(out: &mut [u8], at: usize, call: CallNumbers) -> Place
-    ensures { λ r. ⌜ (r ≡ spec.callPlace call (now (out .entry)) at) × (now (out .exit) ≡ spec.callBuffer call (now (out .entry)) at) ⌝ }
+#[tactic(auto, unfolding(crate::specs::Writing::unknown, crate::specs::Writing::call_place, crate::specs::Writing::call_buffer))]
+pub fn nuthkolla_write_call(out: &mut [u8], at: usize, call: CallNumbers) -> Place
+    ensures { (result ≡ spec.call_place call out.old at) × (out.new ≡ spec.call_buffer call out.old at) }
 {
     let kind = call.kind;
     let regime = call.regime;
@@ -34,13 +33,8 @@ pub extern "C" fn nuthkolla_write_call(out: &mut [u8], at: usize, call: CallNumb
 }
 
 // Writes a configuration's record at a place; number 8 for too little room.
-#[no_mangle]
-pub extern "C" fn nuthkolla_write_config(
-    out: &mut [u8],
-    at: usize,
-    config: PlaneGuidanceConfig,
-) -> Place
-    ensures { λ r. ⌜ (r ≡ spec.configPlace config (now (out .entry)) at) × (now (out .exit) ≡ spec.configBuffer config (now (out .entry)) at) ⌝ }
+pub fn nuthkolla_write_config(out: &mut [u8], at: usize, config: PlaneGuidanceConfig) -> Place
+    ensures { (result ≡ spec.config_place config out.old at) × (out.new ≡ spec.config_buffer config out.old at) }
 {
     let written = write_config(out, at, config);
     place_of(written)

@@ -1,15 +1,18 @@
 // Two recordings held together, for a host in C or Rust: an object of its own, so that the code of a call stays one piece in it.
 // Whoever replays records acts as the skipper (document 02, K9): there is no caller to judge.
-use agreement::Agreement;
-use agreement::agree;
-ghost use mathlib.Core.Path.{_≡_};
-ghost use Rattle·agreement.specs.Agreement.{agreement};
-ghost use Rattle·host_agreement·specs.specs.Agreed as spec;
+#![tactic(auto)]
+
+ghost use Rattle.std.specs.Prelude.{◌≡◌};
+ghost use Rattle.agreement.specs.Agreement.{agreement};
+ghost use Rattle.host_agreement.specs.Agreed as spec;
+
+use agreement::{Agreement, agree};
 
 // agree: 1 where they agree; else box_call and display_call: the numbers of the calls at which they part, 0 in both for the
 // configuration, 0 where no call is left. whose: 0, or 1 for the box's recording, 2 for the display's, with what refused it:
 // refusal, field and call as a compaction has them.
 #[repr(C)]
+#[derive(Clone, Copy)]
 pub struct Agreed {
     pub agree: u32,
     pub box_call: u32,
@@ -21,7 +24,7 @@ pub struct Agreed {
 }
 
 fn agreed_of(answer: Agreement) -> Agreed
-    ensures { λ r. ⌜ r ≡ spec.agreedOf answer ⌝ }
+    ensures { result ≡ spec.agreed_of answer }
 {
     match answer {
         Agreement::Agree => Agreed {
@@ -70,9 +73,8 @@ fn agreed_of(answer: Agreement) -> Agreed
     }
 }
 
-#[no_mangle]
-pub extern "C" fn nuthkolla_agree(s: &[u8], t: &[u8]) -> Agreed
-    ensures { λ r. ⌜ r ≡ spec.agreedOf (agreement (now (s .entry)) (now (t .entry))) ⌝ }
+pub fn nuthkolla_agree(s: &[u8], t: &[u8]) -> Agreed
+    ensures { result ≡ spec.agreed_of (agreement s.now t.now) }
 {
     let answer = agree(s, t);
     agreed_of(answer)

@@ -1,2 +1,2 @@
--- What the walks of functions by reference cite.
+-- What the proofs of functions by reference cite.
 pub mod Kept

@@ -1,8 +1,8 @@
 -- The place after a record that was written, or its refusal. Definitions only.
-use Rattle·fields.specs.declared.Written.{Written}
-use Rattle·fields.specs.declared.Written.the-variants as written
-use Rattle·host_answers·specs.specs.declared.place.Place.{Place}
+use Rattle.fields.specs.declared.Written.{Written}
+use Rattle.fields.specs.declared.Written.TheVariants as written
+use Rattle.host_answers.specs.declared.place.Place.{Place}
 
-abbrev pub placeOf : Written → Place
-placeOf (written.Next next) = record { refusal = 0; next = next }
-placeOf (written.Refused n) = record { refusal = n; next = 0 }
+abbrev pub place_of : Written → Place
+place_of (written.Next next) = record { refusal = 0; next = next }
+place_of (written.Refused n) = record { refusal = n; next = 0 }

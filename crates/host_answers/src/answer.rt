@@ -1,18 +1,18 @@
 // Answers as numbers, for hosts that know no enum.
+ghost use Rattle.std.specs.Prelude.{◌≡◌};
+ghost use Rattle.calls.specs.Calls.{as_reply};
+ghost use Rattle.host_answers.specs.Answer as spec;
+
 use calls::Reply;
-use guidance::plane::Answer;
-use guidance::plane::LateralLaw;
-use guidance::plane::VerticalLaw;
+use guidance::plane::{Answer, LateralLaw, VerticalLaw};
 use laws::types::Setpoint;
-ghost use mathlib.Core.Path.{_≡_};
-ghost use Rattle·calls.specs.Calls.{asReply};
-ghost use Rattle·host_answers·specs.specs.Answer as spec;
 
 // refusal: 0 or the refusal's number; field: of number 1, the failing field; setpoint: 0 none, 1 plane, 2 plane rate;
 // lateral: 0 none, 1 track, 2 loiter, 3 idle; vertical: 0 none, 1 energy, 2 hold, 3 fallback; yaw is +0 in a plane setpoint;
 // cross_track_m: of a waypoint the distance off its line, right positive, else +0; next: the place after the record, 0 where
 // no record was read.
 #[repr(C)]
+#[derive(Clone, Copy)]
 pub struct RunAnswer {
     pub refusal: u32,
     pub field: u32,
@@ -29,7 +29,7 @@ pub struct RunAnswer {
 
 // An answer without a setpoint.
 pub fn bare(refusal: u32, field: u32, next: usize) -> RunAnswer
-    ensures { λ r. ⌜ r ≡ spec.bare refusal «field» next ⌝ }
+    ensures { result ≡ spec.bare refusal «field» next }
 {
     RunAnswer {
         refusal,
@@ -47,7 +47,7 @@ pub fn bare(refusal: u32, field: u32, next: usize) -> RunAnswer
 }
 
 fn lateral_number(law: LateralLaw) -> u32
-    ensures { λ r. ⌜ r ≡ spec.lateralNumber law ⌝ }
+    ensures { result ≡ spec.lateral_number law }
 {
     match law {
         LateralLaw::Track => 1,
@@ -57,7 +57,7 @@ fn lateral_number(law: LateralLaw) -> u32
 }
 
 fn vertical_number(law: VerticalLaw) -> u32
-    ensures { λ r. ⌜ r ≡ spec.verticalNumber law ⌝ }
+    ensures { result ≡ spec.vertical_number law }
 {
     match law {
         VerticalLaw::Energy => 1,
@@ -73,7 +73,7 @@ fn of_setpoint(
     cross_track_m: f32,
     next: usize,
 ) -> RunAnswer
-    ensures { λ r. ⌜ r ≡ spec.ofSetpoint setpoint lateral vertical «cross_track_m» next ⌝ }
+    ensures { result ≡ spec.of_setpoint setpoint lateral vertical cross_track_m next }
 {
     match setpoint {
         Setpoint::Plane {
@@ -115,7 +115,7 @@ fn of_setpoint(
 }
 
 pub fn of_answer(answer: Answer, next: usize) -> RunAnswer
-    ensures { λ r. ⌜ r ≡ spec.ofAnswer answer next ⌝ }
+    ensures { result ≡ spec.of_answer answer next }
 {
     match answer {
         Answer::Refused(n) => bare(n, 0, next),
@@ -137,7 +137,7 @@ pub fn of_answer(answer: Answer, next: usize) -> RunAnswer
 }
 
 pub fn of_reply(reply: Reply, next: usize) -> RunAnswer
-    ensures { λ r. ⌜ r ≡ spec.ofReply (asReply reply) next ⌝ }
+    ensures { result ≡ spec.of_reply (as_reply reply) next }
 {
     match reply {
         Reply::Answered(answer) => of_answer(answer, next),
@@ -147,7 +147,7 @@ pub fn of_reply(reply: Reply, next: usize) -> RunAnswer
 
 // What set-configuration and `new` answer: 0 or the failing field.
 pub fn of_field(field: u32, next: usize) -> RunAnswer
-    ensures { λ r. ⌜ r ≡ spec.ofField «field» next ⌝ }
+    ensures { result ≡ spec.of_field «field» next }
 {
     if field == 0 {
         bare(0, 0, next)

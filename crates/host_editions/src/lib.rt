@@ -1,14 +1,16 @@
 // Records of both editions for a host in C or Rust, an object of its own in the archive: a call record is converted from one
 // buffer into another.
-use editions::Converted;
-use editions::Edition;
-use editions::convert;
-ghost use mathlib.Core.Path.{_≡_};
-ghost use Rattle·host_editions·specs.specs.Conversion as spec;
+#![tactic(auto)]
+
+ghost use Rattle.std.specs.Prelude.{◌≡◌};
+ghost use Rattle.host_editions.specs.Conversion as spec;
+
+use editions::{Converted, Edition, convert};
 
 // refusal: 0 or the refusal's number; read, written: the places after the record that was read and after the one that was
 // written, 0 where there is a refusal.
 #[repr(C)]
+#[derive(Clone, Copy)]
 pub struct Conversion {
     pub refusal: u32,
     pub read: usize,
@@ -16,7 +18,7 @@ pub struct Conversion {
 }
 
 fn conversion_of(answer: Converted) -> Conversion
-    ensures { λ r. ⌜ r ≡ spec.conversionOf answer ⌝ }
+    ensures { result ≡ spec.conversion_of answer }
 {
     match answer {
         Converted::Places { read, written } => Conversion {
@@ -32,15 +34,14 @@ fn conversion_of(answer: Converted) -> Conversion
     }
 }
 
-#[no_mangle]
-pub extern "C" fn nuthkolla_convert_record(
+pub fn nuthkolla_convert_record(
     bytes: &[u8],
     at: usize,
     edition: u32,
     out: &mut [u8],
     place: usize,
 ) -> Conversion
-    ensures { λ r. ⌜ (r ≡ spec.conversion edition (now (bytes .entry)) at (now (out .entry)) place) × (now (out .exit) ≡ spec.bufferAfter edition (now (bytes .entry)) at (now (out .entry)) place) ⌝ }
+    ensures { (result ≡ spec.conversion edition bytes.now at out.old place) × (out.new ≡ spec.buffer_after edition bytes.now at out.old place) }
 {
     if edition == 1 {
         let first = convert(bytes, at, Edition::First, out, place);

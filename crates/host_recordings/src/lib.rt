@@ -1,16 +1,19 @@
 // Recordings for a host in C or Rust, beside the guidance of `host`: an object of its own, so that the code of a call stays one
 // piece there. A recording is compacted inside its buffer. Whoever replays records acts as the skipper (document 02, K9): there is no
 // caller to judge.
-use compaction::Compacted;
-use compaction::compact;
-ghost use mathlib.Core.Path.{_≡_};
-ghost use Rattle·replay.specs.Recording.{recording};
-ghost use Rattle·compaction.specs.Compaction.{compacted, bytesAfter};
-ghost use Rattle·host_recordings·specs.specs.Compaction as spec;
+#![tactic(auto)]
+
+ghost use Rattle.std.specs.Prelude.{◌≡◌};
+ghost use Rattle.replay.specs.Recording.{recording};
+ghost use Rattle.compaction.specs.Compaction.{compacted, bytes_after};
+ghost use Rattle.host_recordings.specs.Compaction as spec;
+
+use compaction::{Compacted, compact};
 
 // refusal: 0 or the refusal's number; field: of refusal 1 the failing field's number; call: the number of the call whose
 // record was refused, 0 for the configuration; length: the new length, 0 where the recording was refused.
 #[repr(C)]
+#[derive(Clone, Copy)]
 pub struct Compaction {
     pub refusal: u32,
     pub field: u32,
@@ -19,7 +22,7 @@ pub struct Compaction {
 }
 
 fn compaction_of(answer: Compacted) -> Compaction
-    ensures { λ r. ⌜ r ≡ spec.compactionOf answer ⌝ }
+    ensures { result ≡ spec.compaction_of answer }
 {
     match answer {
         Compacted::Length(length) => Compaction {
@@ -43,9 +46,8 @@ fn compaction_of(answer: Compacted) -> Compaction
     }
 }
 
-#[no_mangle]
-pub extern "C" fn nuthkolla_compact(bytes: &mut [u8]) -> Compaction
-    ensures { λ r. ⌜ (r ≡ spec.compactionOf (compacted (now (bytes .entry)) (recording (now (bytes .entry))))) × (now (bytes .exit) ≡ bytesAfter (now (bytes .entry)) (recording (now (bytes .entry)))) ⌝ }
+pub fn nuthkolla_compact(bytes: &mut [u8]) -> Compaction
+    ensures { (result ≡ spec.compaction_of (compacted bytes.old (recording bytes.old))) × (bytes.new ≡ bytes_after bytes.old (recording bytes.old)) }
 {
     let answer = compact(bytes);
     compaction_of(answer)

@@ -1,2 +1,2 @@
--- What the walk of `nuthkolla_run_route` cites.
+-- What the proof of `nuthkolla_run_route` cites.
 pub mod RouteKept

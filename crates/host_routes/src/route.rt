@@ -1,30 +1,22 @@
 // Routes for a host, which holds a route's map and number and lends the numbers of its points, four a point. The map is that of both
 // maps of a record, 62 bits.
-use call_numbers::option_of;
-use call_numbers::regime_of;
+ghost use Rattle.std.specs.Prelude.{◌≡◌};
+ghost use Rattle.host_routes.specs.Route as spec;
+
+use call_numbers::{option_of, regime_of};
 use fields::Written;
 use guidance::plane::PlaneGuidance;
-use host_answers::answer::RunAnswer;
-use host_answers::answer::bare;
-use host_answers::answer::of_answer;
-use host_answers::place::Place;
-use host_answers::place::place_of;
-use laws::types::Vec3;
-use laws::types::VehicleState;
-use rights::Deed;
-use rights::may;
-use route_records::Loaded;
-use route_records::load_route;
-use route_records::write_route;
-use routes::Route;
-use routes::RouteCall;
-use routes::fly;
-ghost use mathlib.Core.Path.{_≡_};
-ghost use Rattle·host_routes·specs.specs.Route as spec;
+use host_answers::answer::{RunAnswer, bare, of_answer};
+use host_answers::place::{Place, place_of};
+use laws::types::{Vec3, VehicleState};
+use rights::{Deed, may};
+use route_records::{Loaded, load_route, write_route};
+use routes::{Route, RouteCall, fly};
 
 // What loading answers. refusal: 0 or the refusal's number; number: 1, the point that is flown to first; next: the place
 // after the record. Refused, all but the refusal are 0.
 #[repr(C)]
+#[derive(Clone, Copy)]
 pub struct RouteLoaded {
     pub refusal: u32,
     pub number: u32,
@@ -34,6 +26,7 @@ pub struct RouteLoaded {
 
 // A route call as numbers: the route's map and number, and what comes with the call. has_airspeed, has_cap: flags, 0 or not 0.
 #[repr(C)]
+#[derive(Clone, Copy)]
 pub struct RouteNumbers {
     pub map: u64,
     pub number: u32,
@@ -50,19 +43,21 @@ pub struct RouteNumbers {
 
 // The answer, whose place is 0, and the route's number after the call.
 #[repr(C)]
+#[derive(Clone, Copy)]
 pub struct RouteAnswer {
     pub answer: RunAnswer,
     pub number: u32,
 }
 
 // The guidance after a route call, and the call's answer.
+#[derive(Clone, Copy)]
 pub struct RouteRan {
     pub guidance: PlaneGuidance,
     pub answer: RouteAnswer,
 }
 
 fn loaded_of(loaded: Loaded) -> RouteLoaded
-    ensures { λ r. ⌜ r ≡ spec.loadedOf loaded ⌝ }
+    ensures { result ≡ spec.loaded_of loaded }
 {
     match loaded {
         Loaded::Read { map, next } => RouteLoaded {
@@ -81,14 +76,13 @@ fn loaded_of(loaded: Loaded) -> RouteLoaded
 }
 
 // Number 13 comes before every other check here and below, of the bytes too.
-#[no_mangle]
-pub extern "C" fn nuthkolla_load_route(
+pub fn nuthkolla_load_route(
     caller: u32,
     bytes: &[u8],
     at: usize,
     numbers: &mut [f32],
 ) -> RouteLoaded
-    ensures { λ r. ⌜ (r ≡ spec.loadBy caller (now (bytes .entry)) at (now (numbers .entry))) × (now (numbers .exit) ≡ spec.loadBufferBy caller (now (bytes .entry)) at (now (numbers .entry))) ⌝ }
+    ensures { (result ≡ spec.load_by caller bytes.now at numbers.old) × (numbers.new ≡ spec.load_buffer_by caller bytes.now at numbers.old) }
 {
     if may(caller, Deed::LoadRoute) {
         return loaded_of(load_route(bytes, at, numbers));
@@ -96,15 +90,14 @@ pub extern "C" fn nuthkolla_load_route(
     loaded_of(Loaded::Refused(13))
 }
 
-#[no_mangle]
-pub extern "C" fn nuthkolla_write_route(
+pub fn nuthkolla_write_route(
     caller: u32,
     out: &mut [u8],
     at: usize,
     map: u64,
     numbers: &[f32],
 ) -> Place
-    ensures { λ r. ⌜ (r ≡ spec.writeBy caller (now (out .entry)) at map (now (numbers .entry))) × (now (out .exit) ≡ spec.writeBufferBy caller (now (out .entry)) at map (now (numbers .entry))) ⌝ }
+    ensures { (result ≡ spec.write_by caller out.old at map numbers.now) × (out.new ≡ spec.write_buffer_by caller out.old at map numbers.now) }
 {
     if may(caller, Deed::WriteRoute) {
         return place_of(write_route(out, at, map, numbers));
@@ -114,7 +107,7 @@ pub extern "C" fn nuthkolla_write_route(
 
 // The route and the call of a host's numbers.
 fn route_of(k: RouteNumbers) -> Route
-    ensures { λ r. ⌜ r ≡ spec.routeOf k ⌝ }
+    ensures { result ≡ spec.route_of k }
 {
     Route {
         map: k.map,
@@ -123,7 +116,7 @@ fn route_of(k: RouteNumbers) -> Route
 }
 
 fn route_call_of(k: RouteNumbers) -> RouteCall
-    ensures { λ r. ⌜ r ≡ spec.routeCallOf k ⌝ }
+    ensures { result ≡ spec.route_call_of k }
 {
     let regime = regime_of(k.regime);
     let airspeed_mps = option_of(k.has_airspeed, k.airspeed_mps);
@@ -144,7 +137,7 @@ fn route_call_of(k: RouteNumbers) -> RouteCall
 }
 
 pub fn run_route(g: PlaneGuidance, k: RouteNumbers, numbers: &[f32]) -> RouteRan
-    ensures { λ r. ⌜ r ≡ spec.runRoute g k (now (numbers .entry)) ⌝ }
+    ensures { result ≡ spec.run_route g k numbers.now }
 {
     if 1 < k.regime {
         return RouteRan {
@@ -168,7 +161,7 @@ pub fn run_route(g: PlaneGuidance, k: RouteNumbers, numbers: &[f32]) -> RouteRan
 }
 
 pub fn run_route_by(g: PlaneGuidance, caller: u32, k: RouteNumbers, numbers: &[f32]) -> RouteRan
-    ensures { λ r. ⌜ r ≡ spec.runRouteBy g caller k (now (numbers .entry)) ⌝ }
+    ensures { result ≡ spec.run_route_by g caller k numbers.now }
 {
     if may(caller, Deed::RouteCall) {
         return run_route(g, k, numbers);
@@ -183,14 +176,13 @@ pub fn run_route_by(g: PlaneGuidance, caller: u32, k: RouteNumbers, numbers: &[f
 }
 
 // A route call changes no configuration, neither the one in force nor the kept one, so they are not put back.
-#[no_mangle]
-pub extern "C" fn nuthkolla_run_route(
+pub fn nuthkolla_run_route(
     guidance: &mut PlaneGuidance,
     caller: u32,
     call: RouteNumbers,
     numbers: &[f32],
 ) -> RouteAnswer
-    ensures { λ r. ⌜ (now (guidance .exit) ≡ spec.runRouteBy (now (guidance .entry)) caller call (now (numbers .entry)) .guidance) × (r ≡ spec.runRouteBy (now (guidance .entry)) caller call (now (numbers .entry)) .answer) ⌝ }
+    ensures { (guidance.new ≡ (spec.run_route_by guidance.old caller call numbers.now).guidance) × (result ≡ (spec.run_route_by guidance.old caller call numbers.now).answer) }
 {
     let g = *guidance;
     let r = run_route_by(g, caller, call, numbers);

@@ -1,12 +1,16 @@
 // What the programs desk, compact, agree and edition share: input, as many bytes as decide what they answer, and the line that
 // tells a refusal.
-use lines::Line;
-use lines::put_line;
-ghost use mathlib.Core.Path.{_≡_};
-ghost use Prim.Native.Nat.{_≤_};
-ghost use lib.ListN.{length};
-ghost use Rattle·io.specs.Counts.{Counts};
-ghost use Rattle·replay.specs.Sizes.{decisive};
+#![tactic(auto)]
+
+ghost use Rattle.std.specs.Prelude.{◌≡◌, ◌≤◌, ◌<◌, false, length, take, IfSome, OnOk};
+ghost use Rattle.std.specs.Io.KnownBytes.{Appends, Consumes, IsAtEnd};
+ghost use Rattle.std.specs.Counts.{IsPrefixLen};
+ghost use Rattle.lines.specs.Line.{text};
+ghost use Rattle.replay.specs.Sizes.{decisive};
+
+use lines::{Line, put_line};
+use std::io;
+use std::io::{Read, Write};
 
 // One byte more than the largest recording that can be read to its end: 137 bytes of configuration and 4,096 calls of
 // 86 bytes. To desk, compact and agree input left after these is number 9 whatever it is, so the rest is not read; edition has
@@ -16,46 +20,46 @@ pub const INPUT_ROOM: usize = 137 + 4096 * 86 + 1;
 // No line has more bytes.
 const LINE_ROOM: usize = 80;
 
-const STANDARD_INPUT: i32 = 0;
-
-const STANDARD_ERROR: i32 = 2;
-
 // How many bytes were read, and whether a read failed after them.
+#[derive(Clone, Copy)]
 pub struct Input {
     pub size: usize,
     pub failed: bool,
 }
 
 pub fn input_room() -> [u8; INPUT_ROOM]
-    ensures { λ r. ⌜ decisive ≡ length r ⌝ }
+    ensures { decisive ≡ length result }
 {
     [0u8; INPUT_ROOM]
 }
 
-pub fn read_input(buffer: &mut [u8]) -> Input
-    ensures { λ r. ⌜ Counts (r .size) (now (buffer .exit)) ⌝ }
+// Reads standard input.
+pub fn read_input<S: io::Input>(rt: &S, buffer: &mut [u8]) -> Input
+    ensures { IsPrefixLen result.size buffer.new }
 {
-    read_from(STANDARD_INPUT, buffer)
+    read_from(&mut rt.reader(), buffer)
 }
 
 // Reads until the input ends, the buffer is full or a read fails.
-pub fn read_from(descriptor: i32, buffer: &mut [u8]) -> Input
-    ensures { λ r. ⌜ Counts (r .size) (now (buffer .exit)) ⌝ }
+pub fn read_from<R: Read>(reader: &mut R, buffer: &mut [u8]) -> Input
+    ensures size { IsPrefixLen result.size buffer.new }
+    ensures bytes { Consumes (R.remaining reader.old) (R.remaining reader.new) (take result.size buffer.new) }
+    ensures end { result.failed ≡ false → result.size < length buffer.new → IsAtEnd (R.remaining reader.new) }
+    ensures front { result.failed ≡ false → IfSome (R.remaining reader.old)
+        (λ input. take result.size buffer.new ≡ take (length buffer.new) input) }
 {
     let mut size: usize = 0;
     while size < buffer.len() {
-        let got = libc::read(descriptor, &mut buffer[size..]);
-        if got < 0 {
-            return Input { size, failed: true };
+        match reader.read(&mut buffer[size..]) {
+            Ok(0) => {
+                return Input {
+                    size,
+                    failed: false,
+                };
+            }
+            Ok(more) => size += more,
+            Err(_) => return Input { size, failed: true },
         }
-        let more = io::count(got, &buffer[size..]);
-        if more == 0 {
-            return Input {
-                size,
-                failed: false,
-            };
-        }
-        size += more;
     }
     Input {
         size,
@@ -63,11 +67,12 @@ pub fn read_from(descriptor: i32, buffer: &mut [u8]) -> Input
     }
 }
 
-// A line on standard error.
-pub fn tell(l: Line)
-    requires { ⌜ l .count ≤ 4 ⌝ }
+// A line on a stream, as on standard error.
+pub fn tell<W: Write>(writer: &mut W, l: Line) -> io::Result<()>
+    requires { l.count ≤ 4 }
+    ensures { OnOk result (Appends (W.contents writer.old) (W.contents writer.new) (text l)) }
 {
     let mut text = [0u8; LINE_ROOM];
     let n = put_line(&mut text, l);
-    io::write_all(STANDARD_ERROR, &text[..n]);
+    writer.write_all(&text[..n])
 }

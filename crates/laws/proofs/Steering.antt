@@ -1,99 +1,98 @@
 -- The code's way to the L1 laws gives what the laws say: one measured speed, one aim, and no root past a ratio of 1.
-use mathlib.Core.Path.{_≡_, refl, sym, ap, _∙_}
-use mathlib.Core.Bool.{Bool, true, false, cond, _||_}
-use lib.Ieee as Ieee
-use lib.Ieee.{Float, binary32, isNan, neg, lt, le, eq, ofBits, add, sub, mul, div}
-use Rattle·arithmetic.specs.Constants.{n0, n1, fracPi4}
-use Rattle·arithmetic.specs.Order.{clamp, size}
-use Rattle·arithmetic.specs.Root.{rootOf}
-use Rattle·arithmetic.specs.Trigonometry.{arcsine, arctangent, arctangentOfSize, part, series}
-use Rattle·arithmetic.specs.Vector.{norm, normalise}
-use Rattle·arithmetic.specs.declared.vector.Vec2.{Vec2}
-use Rattle·arithmetic.specs.declared.vector.Normalised.{Normalised}
-use Rattle·arithmetic.specs.declared.vector.Normalised.the-variants.{None, Parts}
-use Rattle·arithmetic.proofs.Bounds.{never′}
-use Rattle·laws·specs.specs.Navigation.{maxCapture, leastLeg, leastOffset, difference, along, rightOf, noCourse, level}
-use Rattle·laws·specs.specs.Navigation.{trackAlong, trackBy, trackAccel, centripetal, loiterBy, loiterAccel, lateralAccel}
-use Rattle·laws·specs.specs.code.Steering.{trackTo, circle, aimOf, badRadius, withCentripetal, steer}
-use Rattle·laws·specs.specs.declared.types.OptionVec2.{OptionVec2}
-use Rattle·laws·specs.specs.declared.types.OptionVec2.the-variants as Leg
+use mathlib.Core.Path.{◌≡◌, refl, sym, ◌∙◌}
+use mathlib.Core.Bool.{Bool, true, false, ◌||◌}
+use lib.Ieee.{Float, is_nan, neg, lt, le, eq, of_bits, add, sub, mul, div}
+use Rattle.arithmetic.specs.Constants.{n0, n1}
+use Rattle.arithmetic.specs.Order.{clamp, size}
+use Rattle.arithmetic.specs.Root.{root_of}
+use Rattle.arithmetic.specs.Trigonometry.{arcsine, arctangent, arctangent_of_size, part, series}
+use Rattle.arithmetic.specs.Vector.{norm, normalise}
+use Rattle.arithmetic.specs.declared.vector.Vec2.{Vec2}
+use Rattle.arithmetic.specs.declared.vector.Normalised.{Normalised}
+use Rattle.arithmetic.specs.declared.vector.Normalised.TheVariants.{None, Parts}
+use Rattle.arithmetic.proofs.Bounds.{never'}
+use Rattle.laws.specs.Navigation.{max_capture, least_leg, least_offset, difference, along, right_of, no_course, level}
+use Rattle.laws.specs.Navigation.{track_by, track_accel, loiter_by, loiter_accel, lateral_accel}
+use Rattle.laws.specs.Code.Steering.{track_to, circle, aim_of, bad_radius, with_centripetal, steer}
+use Rattle.laws.specs.declared.types.OptionVec2.{OptionVec2}
+use Rattle.laws.specs.declared.types.OptionVec2.TheVariants as Leg
 
 -- ---- the capture angle past a ratio of 1
 
 abbrev captured : Float → Float
-captured ratio = clamp (arcsine ratio) (neg maxCapture) maxCapture
+captured ratio = clamp (arcsine ratio) (neg max_capture) max_capture
 
-captured-left : captured (neg n1) ≡ neg maxCapture
-unfolding clamp arcsine arctangent arctangentOfSize part series rootOf size isNan neg lt le eq ofBits add sub mul div
-captured-left = refl
+captured_left : captured (neg n1) ≡ neg max_capture
+unfolding clamp arcsine arctangent arctangent_of_size part series root_of size is_nan neg lt le eq of_bits add sub mul div
+captured_left = refl
 
-captured-right : captured n1 ≡ maxCapture
-unfolding clamp arcsine arctangent arctangentOfSize part series rootOf size isNan neg lt le eq ofBits add sub mul div
-captured-right = refl
+captured_right : captured n1 ≡ max_capture
+unfolding clamp arcsine arctangent arctangent_of_size part series root_of size is_nan neg lt le eq of_bits add sub mul div
+captured_right = refl
 
-pub past-left : (ratio : Float) → lt ratio (neg n1) ≡ true → captured (clamp ratio (neg n1) n1) ≡ neg maxCapture
+pub past_left : (ratio : Float) → lt ratio (neg n1) ≡ true → captured (clamp ratio (neg n1) n1) ≡ neg max_capture
 unfolding clamp
-past-left ratio h = rw h captured-left
+past_left ratio h = rw h captured_left
 
-pub past-right : (ratio : Float) → lt ratio (neg n1) ≡ false → lt n1 ratio ≡ true → captured (clamp ratio (neg n1) n1) ≡ maxCapture
+pub past_right : (ratio : Float) → lt ratio (neg n1) ≡ false → lt n1 ratio ≡ true → captured (clamp ratio (neg n1) n1) ≡ max_capture
 unfolding clamp
-past-right ratio h g = rw (h, g) captured-right
+past_right ratio h g = rw (h, g) captured_right
 
 -- ---- one speed, one aim
 
-pub or-left : (a b : Bool) → a || b ≡ false → a ≡ false
-or-left true b h = never′ h
-or-left false b h = refl
+pub or_left : (a b : Bool) → a || b ≡ false → a ≡ false
+or_left true b h = never' h
+or_left false b h = refl
 
-pub or-right : (a b : Bool) → a || b ≡ false → b ≡ false
-or-right true b h = never′ h
-or-right false b h = h
+pub or_right : (a b : Bool) → a || b ≡ false → b ≡ false
+or_right true b h = never' h
+or_right false b h = h
 
-or-assoc : (a b c : Bool) → a || b || c ≡ a || (b || c)
-or-assoc true b c = refl
-or-assoc false b c = refl
+or_assoc : (a b c : Bool) → a || b || c ≡ a || (b || c)
+or_assoc true b c = refl
+or_assoc false b c = refl
 
-or-false : (a : Bool) → a || false ≡ a
-or-false true = refl
-or-false false = refl
+or_false : (a : Bool) → a || false ≡ a
+or_false true = refl
+or_false false = refl
 
 module _ (position velocity point : Vec2) (radius period damping : Float) where
   -- the speed that track measures is the one handed to it
   known :
-      noCourse (norm velocity) ≡ false → (through : Vec2) (n : Normalised) →
-      trackBy position velocity through period damping n ≡ trackTo position velocity through (norm velocity) period damping n
-  unfolding trackBy trackTo
+      no_course (norm velocity) ≡ false → (through : Vec2) (n : Normalised) →
+      track_by position velocity through period damping n ≡ track_to position velocity through (norm velocity) period damping n
+  unfolding track_by track_to
   known h through None = refl
   known h through (Parts d) = rw h
 
-  no-track : noCourse (norm velocity) ≡ true → (n : Normalised) → trackBy position velocity point period damping n ≡ level true
-  unfolding trackBy
-  no-track h None = refl
-  no-track h (Parts d) = rw h
+  no_track : no_course (norm velocity) ≡ true → (n : Normalised) → track_by position velocity point period damping n ≡ level true
+  unfolding track_by
+  no_track h None = refl
+  no_track h (Parts d) = rw h
 
   around :
-      noCourse (norm velocity) ≡ false → (n : Normalised) →
+      no_course (norm velocity) ≡ false → (n : Normalised) →
       steer (circle point radius n) Leg.None position velocity radius (norm velocity) period damping
-      ≡ loiterBy position velocity point radius period damping n
-  unfolding steer circle withCentripetal loiterBy trackAccel
+      ≡ loiter_by position velocity point radius period damping n
+  unfolding steer circle with_centripetal loiter_by track_accel
   around h None = refl
-  around h (Parts outward) = rw (known h (along point outward radius) (normalise (rightOf outward) leastLeg))
+  around h (Parts outward) = rw (known h (along point outward radius) (normalise (right_of outward) least_leg))
 
-  pub gives-up :
-      (leg : OptionVec2) → noCourse (norm velocity) || badRadius leg radius ≡ true →
-      lateralAccel leg position velocity point radius period damping ≡ level (noCourse (norm velocity))
-  unfolding badRadius lateralAccel loiterAccel trackAccel
-  gives-up Leg.None h = rw (or-assoc (noCourse (norm velocity)) (isNan radius) (le radius n0), h)
-  gives-up (Leg.Some d) h =
-      let slow = sym (or-false (noCourse (norm velocity))) ∙ h in
-      rw slow (no-track slow (normalise d leastLeg))
+  pub gives_up :
+      (leg : OptionVec2) → no_course (norm velocity) || bad_radius leg radius ≡ true →
+      lateral_accel leg position velocity point radius period damping ≡ level (no_course (norm velocity))
+  unfolding bad_radius lateral_accel loiter_accel track_accel
+  gives_up Leg.None h = rw (or_assoc (no_course (norm velocity)) (is_nan radius) (le radius n0), h)
+  gives_up (Leg.Some d) h =
+      let slow = sym (or_false (no_course (norm velocity))) ∙ h in
+      rw slow (no_track slow (normalise d least_leg))
 
   pub steers :
-      (leg : OptionVec2) → noCourse (norm velocity) || badRadius leg radius ≡ false →
-      steer (aimOf leg position point radius) leg position velocity radius (norm velocity) period damping
-      ≡ lateralAccel leg position velocity point radius period damping
-  unfolding badRadius aimOf lateralAccel loiterAccel trackAccel steer withCentripetal
+      (leg : OptionVec2) → no_course (norm velocity) || bad_radius leg radius ≡ false →
+      steer (aim_of leg position point radius) leg position velocity radius (norm velocity) period damping
+      ≡ lateral_accel leg position velocity point radius period damping
+  unfolding bad_radius aim_of lateral_accel loiter_accel track_accel steer with_centripetal
   steers Leg.None h =
-      rw (or-assoc (noCourse (norm velocity)) (isNan radius) (le radius n0), h)
-      (around (or-left (noCourse (norm velocity)) (isNan radius || le radius n0) h) (normalise (difference position point) leastOffset))
-  steers (Leg.Some d) h = sym (known (or-left (noCourse (norm velocity)) false h) point (normalise d leastLeg))
+      rw (or_assoc (no_course (norm velocity)) (is_nan radius) (le radius n0), h)
+      (around (or_left (no_course (norm velocity)) (is_nan radius || le radius n0) h) (normalise (difference position point) least_offset))
+  steers (Leg.Some d) h = sym (known (or_left (no_course (norm velocity)) false h) point (normalise d least_leg))

@@ -1,15 +1,15 @@
 -- What a valid configuration guarantees: the test of every field.
 use Prim.Native.Nat.{ℕ, zero, suc}
-use mathlib.Core.Path.{_≡_, refl}
+use mathlib.Core.Path.{◌≡◌, refl}
 use mathlib.Core.Bool.{Bool, true, false, not}
-use mathlib.Core.List.{List, [], _∷_}
+use mathlib.Core.List.{List, [], ◌∷◌}
 use native.Mathlib.Omega.{arith}
-use lib.Ieee.{Float, isNan, lt, le}
-use Rattle·arithmetic.specs.Constants.{n0}
-use Rattle·arithmetic.proofs.Bounds.{never, and-left, right-number, lt-right, le-of-not-lt}
-use Rattle·laws·specs.specs.Config.{firstFailing, ordered, tecsTests, configTests, tecsValidate, validate, OrderedPairs}
-use Rattle·laws·specs.specs.declared.config.TecsConfig.{TecsConfig}
-use Rattle·laws·specs.specs.declared.config.PlaneGuidanceConfig.{PlaneGuidanceConfig}
+use lib.Ieee.{Float, is_nan, lt, le}
+use Rattle.arithmetic.specs.Constants.{n0}
+use Rattle.arithmetic.proofs.Bounds.{never, and_left, right_number, lt_right, le_of_not_lt}
+use Rattle.laws.specs.Config.{first_failing, ordered, tecs_tests, config_tests, tecs_validate, validate, OrderedPairs}
+use Rattle.laws.specs.declared.config.TecsConfig.{TecsConfig}
+use Rattle.laws.specs.declared.config.PlaneGuidanceConfig.{PlaneGuidanceConfig}
 
 -- the test at a place, counted from 0; past the end there is nothing to fail
 abbrev pub at : ℕ → List Bool → Bool
@@ -17,42 +17,42 @@ at n [] = true
 at zero (b ∷ bs) = b
 at (suc n) (b ∷ bs) = at n bs
 
-not-zero : {A : Type 0} {n : ℕ} → suc n ≡ 0 → A
-not-zero h = absurd (omega arith)
+not_zero : {A : Type 0} {n : ℕ} → suc n ≡ 0 → A
+not_zero h = absurd (omega arith)
 
-none-fails : (n : ℕ) (bs : List Bool) → firstFailing (suc n) bs 0 ≡ 0 → (i : ℕ) → at i bs ≡ true
-unfolding firstFailing
-none-fails n [] h i = refl
-none-fails n (true ∷ bs) h zero = refl
-none-fails n (true ∷ bs) h (suc i) = none-fails (suc n) bs h i
-none-fails n (false ∷ bs) h i = not-zero h
+none_fails : (n : ℕ) (bs : List Bool) → first_failing (suc n) bs 0 ≡ 0 → (i : ℕ) → at i bs ≡ true
+unfolding first_failing
+none_fails n [] h i = refl
+none_fails n (true ∷ bs) h zero = refl
+none_fails n (true ∷ bs) h (suc i) = none_fails (suc n) bs h i
+none_fails n (false ∷ bs) h i = not_zero h
 
 -- Field i of document 01, 1 to 33, or of document 02, 34 and 35, passes its test in a valid configuration.
-pub valid-field : (c : PlaneGuidanceConfig) → validate c ≡ 0 → (i : ℕ) → at i (true ∷ configTests c) ≡ true
+pub valid_field : (c : PlaneGuidanceConfig) → validate c ≡ 0 → (i : ℕ) → at i (true ∷ config_tests c) ≡ true
 unfolding validate
-valid-field c h zero = refl
-valid-field c h (suc i) = none-fails 0 (configTests c) h i
+valid_field c h zero = refl
+valid_field c h (suc i) = none_fails 0 (config_tests c) h i
 
 -- Field 15 + i, in a valid energy configuration.
-pub valid-tecs-field : (t : TecsConfig) → tecsValidate t ≡ 0 → (i : ℕ) → at i (tecsTests t) ≡ true
-unfolding tecsValidate
-valid-tecs-field t h i = none-fails 14 (tecsTests t) h i
+pub valid_tecs_field : (t : TecsConfig) → tecs_validate t ≡ 0 → (i : ℕ) → at i (tecs_tests t) ≡ true
+unfolding tecs_validate
+valid_tecs_field t h i = none_fails 14 (tecs_tests t) h i
 
 -- Of two numbers the first is at most the second where it is not above it.
-at-most : (x y : Float) → isNan x ≡ false → isNan y ≡ false → ordered x y ≡ true → le x y ≡ true
-at-most x y p q h = go (lt y x) refl h
+at_most : (x y : Float) → is_nan x ≡ false → is_nan y ≡ false → ordered x y ≡ true → le x y ≡ true
+at_most x y p q h = go (lt y x) refl h
   where
     go : (b : Bool) → lt y x ≡ b → not b ≡ true → le x y ≡ true
     go true e h = never h
-    go false e h = le-of-not-lt y x q p e
+    go false e h = le_of_not_lt y x q p e
 
 -- A valid configuration has both pairs ordered.
-pub valid-ordered : (c : PlaneGuidanceConfig) → validate c ≡ 0 → OrderedPairs c
-valid-ordered c h = record {
+pub valid_ordered : (c : PlaneGuidanceConfig) → validate c ≡ 0 → OrderedPairs c
+valid_ordered c h = record {
   airspeed =
-      at-most (c .tecs .«min_airspeed_mps») (c .tecs .«max_airspeed_mps») (lt-right n0 _ (and-left (lt n0 (c .tecs .«min_airspeed_mps»)) _ (valid-field c h 25)))
-      (lt-right n0 _ (and-left (lt n0 (c .tecs .«max_airspeed_mps»)) _ (valid-field c h 26))) (valid-field c h 34);
+      at_most c.tecs.min_airspeed_mps c.tecs.max_airspeed_mps (lt_right n0 _ (and_left (lt n0 c.tecs.min_airspeed_mps) _ (valid_field c h 25)))
+      (lt_right n0 _ (and_left (lt n0 c.tecs.max_airspeed_mps) _ (valid_field c h 26))) (valid_field c h 34);
   thrust =
-      at-most (c .«min_thrust») (c .«max_thrust») (right-number n0 _ (and-left (le n0 (c .«min_thrust»)) _ (valid-field c h 31)))
-      (right-number n0 _ (and-left (le n0 (c .«max_thrust»)) _ (valid-field c h 32))) (valid-field c h 35);
+      at_most c.min_thrust c.max_thrust (right_number n0 _ (and_left (le n0 c.min_thrust) _ (valid_field c h 31)))
+      (right_number n0 _ (and_left (le n0 c.max_thrust) _ (valid_field c h 32))) (valid_field c h 35);
 }

@@ -1,14 +1,14 @@
 // The configuration: 33 numbers, numbered in the order of `validate`, which looks at two pairs of them last, as fields 34 and 35.
+ghost use Rattle.std.specs.Prelude.{◌≡◌, cond};
+ghost use Rattle.laws.specs.Config as spec;
+
 use crate::types::Vec3;
 use arithmetic::order::is_finite;
-use arithmetic::trigonometry::FRAC_PI_2;
-use arithmetic::trigonometry::PI;
-ghost use mathlib.Core.Path.{_≡_};
-ghost use mathlib.Core.Bool.{cond};
-ghost use Rattle·laws·specs.specs.Config as spec;
+use arithmetic::trigonometry::{FRAC_PI_2, PI};
 
 // Fields 15 to 30: total energy control.
 #[repr(C)]
+#[derive(Clone, Copy)]
 pub struct TecsConfig {
     pub time_constant_s: f32,
     pub max_climb_mps: f32,
@@ -30,6 +30,7 @@ pub struct TecsConfig {
 
 // Fields 1 to 14 (max_rate_radps is three), the energy configuration, and fields 31 to 33.
 #[repr(C)]
+#[derive(Clone, Copy)]
 pub struct PlaneGuidanceConfig {
     pub max_bank_rad: f32,
     pub max_pitch_up_rad: f32,
@@ -54,7 +55,7 @@ const DEG: f32 = PI / 180.0;
 
 // Each check gives `rest` where the value passes, and else the field's number.
 fn check_limit(field: u32, value: f32, rest: u32) -> u32
-    ensures { λ r. ⌜ r ≡ cond (spec.checkLimit value) rest field ⌝ }
+    ensures { result ≡ cond (spec.check_limit value) rest field }
 {
     if (value >= 0.0) & is_finite(value) {
         rest
@@ -64,7 +65,7 @@ fn check_limit(field: u32, value: f32, rest: u32) -> u32
 }
 
 fn check_positive(field: u32, value: f32, rest: u32) -> u32
-    ensures { λ r. ⌜ r ≡ cond (spec.checkPositive value) rest field ⌝ }
+    ensures { result ≡ cond (spec.check_positive value) rest field }
 {
     if (value > 0.0) & is_finite(value) {
         rest
@@ -74,7 +75,7 @@ fn check_positive(field: u32, value: f32, rest: u32) -> u32
 }
 
 fn check_within(field: u32, low: f32, value: f32, high: f32, rest: u32) -> u32
-    ensures { λ r. ⌜ r ≡ cond (spec.within low value high) rest field ⌝ }
+    ensures { result ≡ cond (spec.within low value high) rest field }
 {
     if (value >= low) & (value <= high) {
         rest
@@ -84,7 +85,7 @@ fn check_within(field: u32, low: f32, value: f32, high: f32, rest: u32) -> u32
 }
 
 fn check_share(field: u32, value: f32, rest: u32) -> u32
-    ensures { λ r. ⌜ r ≡ cond (spec.checkShare value) rest field ⌝ }
+    ensures { result ≡ cond (spec.check_share value) rest field }
 {
     if (value > 0.0) & (value <= 1.0) {
         rest
@@ -95,14 +96,14 @@ fn check_share(field: u32, value: f32, rest: u32) -> u32
 
 // Document 02, K8: a least value above its greatest fails; equal ones pass, zeros of two signs too.
 fn check_ordered(field: u32, least: f32, greatest: f32, rest: u32) -> u32
-    ensures { λ r. ⌜ r ≡ cond (spec.ordered least greatest) rest field ⌝ }
+    ensures { result ≡ cond (spec.ordered least greatest) rest field }
 {
     if least > greatest { field } else { rest }
 }
 
 // Fields 1 to 14; `rest` where all of them pass.
 fn first_fields(c: PlaneGuidanceConfig, rest: u32) -> u32
-    ensures { λ r. ⌜ r ≡ spec.firstFailing 1 (spec.firstTests c) rest ⌝ }
+    ensures { result ≡ spec.first_failing 1 (spec.first_tests c) rest }
 {
     let n14 = check_limit(14, c.altitude_max_integral, rest);
     let n13 = check_limit(13, c.altitude_i, n14);
@@ -122,7 +123,7 @@ fn first_fields(c: PlaneGuidanceConfig, rest: u32) -> u32
 
 // Fields 15 to 30.
 fn tecs_fields(t: TecsConfig, rest: u32) -> u32
-    ensures { λ r. ⌜ r ≡ spec.firstFailing 15 (spec.tecsTests t) rest ⌝ }
+    ensures { result ≡ spec.first_failing 15 (spec.tecs_tests t) rest }
 {
     let n30 = check_positive(30, t.kinetic_rate_high_pass_s, rest);
     let n29 = check_positive(29, t.airspeed_rate_time_constant_s, n30);
@@ -144,7 +145,7 @@ fn tecs_fields(t: TecsConfig, rest: u32) -> u32
 
 // Fields 31 to 33, and the two pairs, 34 and 35.
 fn last_fields(c: PlaneGuidanceConfig, rest: u32) -> u32
-    ensures { λ r. ⌜ r ≡ spec.firstFailing 31 (spec.lastTests c) rest ⌝ }
+    ensures { result ≡ spec.first_failing 31 (spec.last_tests c) rest }
 {
     let n35 = check_ordered(35, c.min_thrust, c.max_thrust, rest);
     let n34 = check_ordered(34, c.tecs.min_airspeed_mps, c.tecs.max_airspeed_mps, n35);
@@ -155,14 +156,14 @@ fn last_fields(c: PlaneGuidanceConfig, rest: u32) -> u32
 
 // 0, or the number of the first failing field, 15 to 30.
 pub fn tecs_validate(t: TecsConfig) -> u32
-    ensures { λ r. ⌜ r ≡ spec.tecsValidate t ⌝ }
+    ensures { result ≡ spec.tecs_validate t }
 {
     tecs_fields(t, 0)
 }
 
 // 0, or the number of the first failing field, 1 to 35.
 pub fn validate(c: PlaneGuidanceConfig) -> u32
-    ensures { λ r. ⌜ r ≡ spec.validate c ⌝ }
+    ensures { result ≡ spec.validate c }
 {
     let last = last_fields(c, 0);
     let t = c.tecs;
@@ -170,7 +171,7 @@ pub fn validate(c: PlaneGuidanceConfig) -> u32
 }
 
 pub fn tecs_default() -> TecsConfig
-    ensures { λ r. ⌜ r ≡ spec.tecsDefault ⌝ }
+    ensures { result ≡ spec.tecs_default }
 {
     TecsConfig {
         time_constant_s: 5.0,
@@ -193,7 +194,7 @@ pub fn tecs_default() -> TecsConfig
 }
 
 pub fn default() -> PlaneGuidanceConfig
-    ensures { λ r. ⌜ r ≡ spec.default ⌝ }
+    ensures { result ≡ spec.default }
 {
     PlaneGuidanceConfig {
         max_bank_rad: 45.0 * DEG,

@@ -1,30 +1,14 @@
 // Waypoint navigation: L1 path following and loiter, and the altitude loop. x is north, y is east, right is positive.
-use crate::math::all_finite;
-use crate::math::clamp_symmetric;
-use crate::types::GRAVITY;
-use crate::types::OptionVec2;
-use arithmetic::order::choose;
-use arithmetic::order::clamp_ordered;
-use arithmetic::order::greatest;
-use arithmetic::order::is_finite;
-use arithmetic::order::is_nan;
-use arithmetic::trigonometry::FRAC_PI_2;
-use arithmetic::trigonometry::FRAC_PI_4;
-use arithmetic::trigonometry::PI;
-use arithmetic::trigonometry::arcsine;
-use arithmetic::trigonometry::arctangent;
-use arithmetic::trigonometry::arctangent2;
-use arithmetic::trigonometry::sine;
-use arithmetic::vector::Normalised;
-use arithmetic::vector::Vec2;
-use arithmetic::vector::cross;
-use arithmetic::vector::dot;
-use arithmetic::vector::norm;
-use arithmetic::vector::normalise;
-ghost use mathlib.Core.Path.{_≡_};
-ghost use Rattle·arithmetic.specs.Vector.{normalise as unit};
-ghost use Rattle·laws·specs.specs.Navigation as spec;
-ghost use Rattle·laws·specs.specs.code.Steering as steering;
+ghost use Rattle.std.specs.Prelude.{◌≡◌};
+ghost use Rattle.arithmetic.specs.Vector.{normalise as unit};
+ghost use Rattle.laws.specs.Navigation as spec;
+ghost use Rattle.laws.specs.Code.Steering as steering;
+
+use crate::math::{all_finite, clamp_symmetric};
+use crate::types::{GRAVITY, OptionVec2};
+use arithmetic::order::{choose, clamp_ordered, greatest, is_finite, is_nan};
+use arithmetic::trigonometry::{FRAC_PI_2, FRAC_PI_4, PI, arcsine, arctangent, arctangent2, sine};
+use arithmetic::vector::{Normalised, Vec2, cross, dot, norm, normalise};
 
 // Below this ground speed the path has no course to compare against.
 const MIN_GROUND_SPEED_MPS: f32 = 1.0;
@@ -33,6 +17,7 @@ const MAX_CAPTURE_RAD: f32 = FRAC_PI_4;
 
 // What a lateral law answers: the acceleration in m/s² and the distance off its line in m, both right positive; idle where
 // it gave up for want of a leg or a course.
+#[derive(Clone, Copy)]
 pub struct Lateral {
     pub accel_mps2: f32,
     pub cross_track_m: f32,
@@ -40,18 +25,21 @@ pub struct Lateral {
 }
 
 // The L1 distance and gain for a ground speed.
+#[derive(Clone, Copy)]
 pub struct L1Gains {
     pub distance_m: f32,
     pub gain: f32,
 }
 
 // The line through `point` along `direction`, which has any length.
+#[derive(Clone, Copy)]
 pub struct Line {
     pub point: Vec2,
     pub direction: Vec2,
 }
 
 // Where a lateral law steers: along a line, or, within 1e-3 of a loiter's centre, along none.
+#[derive(Clone, Copy)]
 pub enum Aim {
     Line(Line),
     Center,
@@ -59,24 +47,26 @@ pub enum Aim {
 
 // A PI loop with a clamped output; it holds only its integral.
 #[repr(C)]
+#[derive(Clone, Copy)]
 pub struct PiLoop {
     pub integral: f32,
 }
 
 // One step of a PI loop: its output and the loop after it.
+#[derive(Clone, Copy)]
 pub struct PiResult {
     pub output: f32,
     pub pi: PiLoop,
 }
 
 pub fn no_course(speed_mps: f32) -> bool
-    ensures { λ r. ⌜ r ≡ spec.noCourse «speed_mps» ⌝ }
+    ensures { result ≡ spec.no_course speed_mps }
 {
     is_nan(speed_mps) | (speed_mps < MIN_GROUND_SPEED_MPS)
 }
 
 pub fn l1(ground_speed_mps: f32, period_s: f32, damping: f32) -> L1Gains
-    ensures { λ r. ⌜ r ≡ spec.l1 «ground_speed_mps» «period_s» damping ⌝ }
+    ensures { result ≡ spec.l1 ground_speed_mps period_s damping }
 {
     L1Gains {
         distance_m: damping * period_s * ground_speed_mps / PI,
@@ -85,7 +75,7 @@ pub fn l1(ground_speed_mps: f32, period_s: f32, damping: f32) -> L1Gains
 }
 
 fn difference(a: Vec2, b: Vec2) -> Vec2
-    ensures { λ r. ⌜ r ≡ spec.difference a b ⌝ }
+    ensures { result ≡ spec.difference a b }
 {
     Vec2 {
         x: a.x - b.x,
@@ -95,7 +85,7 @@ fn difference(a: Vec2, b: Vec2) -> Vec2
 
 // Past ±1 the clamped ratio's arcsine is ±FRAC_PI_2, beyond the capture's limit: no root is taken.
 fn capture(cross_track_m: f32, distance_m: f32) -> f32
-    ensures { λ r. ⌜ r ≡ spec.capture «cross_track_m» «distance_m» ⌝ }
+    ensures { result ≡ spec.capture cross_track_m distance_m }
 {
     let ratio = cross_track_m / distance_m;
     if ratio < -1.0 {
@@ -109,7 +99,7 @@ fn capture(cross_track_m: f32, distance_m: f32) -> f32
 
 // Straight back is a tie, which turns right whatever the sign of the zero.
 fn course(direction: Vec2, velocity_mps: Vec2) -> f32
-    ensures { λ r. ⌜ r ≡ spec.course direction «velocity_mps» ⌝ }
+    ensures { result ≡ spec.course direction velocity_mps }
 {
     let side = cross(direction, velocity_mps);
     let ahead = dot(direction, velocity_mps);
@@ -129,7 +119,7 @@ fn track_along(
     period_s: f32,
     damping: f32,
 ) -> Lateral
-    ensures { λ r. ⌜ r ≡ spec.trackAlong «position_m» «velocity_mps» «point_m» direction «speed_mps» «period_s» damping ⌝ }
+    ensures { result ≡ spec.track_along position_m velocity_mps point_m direction speed_mps period_s damping }
 {
     let gains = l1(speed_mps, period_s, damping);
     let cross_track_m = cross(direction, difference(position_m, point_m));
@@ -153,7 +143,7 @@ fn track_to(
     period_s: f32,
     damping: f32,
 ) -> Lateral
-    ensures { λ r. ⌜ r ≡ steering.trackTo «position_m» «velocity_mps» «point_m» «speed_mps» «period_s» damping (unit direction spec.leastLeg) ⌝ }
+    ensures { result ≡ steering.track_to position_m velocity_mps point_m speed_mps period_s damping (unit direction spec.least_leg) }
 {
     match normalise(direction, 1e-6) {
         Normalised::None => Lateral {
@@ -176,14 +166,14 @@ fn track_to(
 }
 
 fn centripetal(speed_mps: f32, radius_m: f32) -> f32
-    ensures { λ r. ⌜ r ≡ spec.centripetal «speed_mps» «radius_m» ⌝ }
+    ensures { result ≡ spec.centripetal speed_mps radius_m }
 {
     speed_mps * speed_mps / radius_m
 }
 
 // The tangent at the nearest point of the circle, clockwise: from north, toward east.
 fn circle(position_m: Vec2, center_m: Vec2, radius_m: f32) -> Aim
-    ensures { λ r. ⌜ r ≡ steering.circle «center_m» «radius_m» (unit (spec.difference «position_m» «center_m») spec.leastOffset) ⌝ }
+    ensures { result ≡ steering.circle center_m radius_m (unit (spec.difference position_m center_m) spec.least_offset) }
 {
     match normalise(difference(position_m, center_m), 1e-3) {
         Normalised::None => Aim::Center,
@@ -201,7 +191,7 @@ fn circle(position_m: Vec2, center_m: Vec2, radius_m: f32) -> Aim
 }
 
 fn aim_of(leg: OptionVec2, position_m: Vec2, point_m: Vec2, radius_m: f32) -> Aim
-    ensures { λ r. ⌜ r ≡ steering.aimOf leg «position_m» «point_m» «radius_m» ⌝ }
+    ensures { result ≡ steering.aim_of leg position_m point_m radius_m }
 {
     match leg {
         OptionVec2::None => circle(position_m, point_m, radius_m),
@@ -213,7 +203,7 @@ fn aim_of(leg: OptionVec2, position_m: Vec2, point_m: Vec2, radius_m: f32) -> Ai
 }
 
 fn bad_radius(leg: OptionVec2, radius_m: f32) -> bool
-    ensures { λ r. ⌜ r ≡ steering.badRadius leg «radius_m» ⌝ }
+    ensures { result ≡ steering.bad_radius leg radius_m }
 {
     match leg {
         OptionVec2::None => is_nan(radius_m) | (radius_m <= 0.0),
@@ -223,7 +213,7 @@ fn bad_radius(leg: OptionVec2, radius_m: f32) -> bool
 
 // What a loiter adds to track.
 fn with_centripetal(leg: OptionVec2, speed_mps: f32, radius_m: f32, tracked: Lateral) -> Lateral
-    ensures { λ r. ⌜ r ≡ steering.withCentripetal leg «speed_mps» «radius_m» tracked ⌝ }
+    ensures { result ≡ steering.with_centripetal leg speed_mps radius_m tracked }
 {
     match leg {
         OptionVec2::None => Lateral {
@@ -245,7 +235,7 @@ fn steer(
     period_s: f32,
     damping: f32,
 ) -> Lateral
-    ensures { λ r. ⌜ r ≡ steering.steer aim leg «position_m» «velocity_mps» «radius_m» «speed_mps» «period_s» damping ⌝ }
+    ensures { result ≡ steering.steer aim leg position_m velocity_mps radius_m speed_mps period_s damping }
 {
     match aim {
         Aim::Line(line) => {
@@ -281,7 +271,7 @@ pub fn lateral_accel_mps2(
     period_s: f32,
     damping: f32,
 ) -> Lateral
-    ensures { λ r. ⌜ r ≡ spec.lateralAccel leg «position_m» «velocity_mps» «point_m» «radius_m» «period_s» damping ⌝ }
+    ensures { result ≡ spec.lateral_accel leg position_m velocity_mps point_m radius_m period_s damping }
 {
     let speed_mps = norm(velocity_mps);
     let idle = no_course(speed_mps);
@@ -313,7 +303,7 @@ pub fn track_accel_mps2(
     period_s: f32,
     damping: f32,
 ) -> Lateral
-    ensures { λ r. ⌜ r ≡ spec.trackAccel «position_m» «velocity_mps» «point_m» direction «period_s» damping ⌝ }
+    ensures { result ≡ spec.track_accel position_m velocity_mps point_m direction period_s damping }
 {
     let leg = OptionVec2::Some(direction);
     lateral_accel_mps2(
@@ -335,7 +325,7 @@ pub fn loiter_accel_mps2(
     period_s: f32,
     damping: f32,
 ) -> Lateral
-    ensures { λ r. ⌜ r ≡ spec.loiterAccel «position_m» «velocity_mps» «center_m» «radius_m» «period_s» damping ⌝ }
+    ensures { result ≡ spec.loiter_accel position_m velocity_mps center_m radius_m period_s damping }
 {
     lateral_accel_mps2(
         OptionVec2::None,
@@ -349,7 +339,7 @@ pub fn loiter_accel_mps2(
 }
 
 pub fn finite_leg(leg: OptionVec2) -> OptionVec2
-    ensures { λ r. ⌜ r ≡ spec.finiteLeg leg ⌝ }
+    ensures { result ≡ spec.finite_leg leg }
 {
     match leg {
         OptionVec2::None => OptionVec2::None,
@@ -364,14 +354,14 @@ pub fn finite_leg(leg: OptionVec2) -> OptionVec2
 }
 
 pub fn bank_for_accel_rad(accel_mps2: f32) -> f32
-    ensures { λ r. ⌜ r ≡ spec.bankForAccel «accel_mps2» ⌝ }
+    ensures { result ≡ spec.bank_for_accel accel_mps2 }
 {
     let bank = arctangent(accel_mps2 / GRAVITY);
     choose(is_finite(bank), bank, 0.0)
 }
 
 fn pi_pinned(unclamped: f32, error: f32, low: f32, high: f32) -> bool
-    ensures { λ r. ⌜ r ≡ spec.piPinned unclamped error low high ⌝ }
+    ensures { result ≡ spec.pi_pinned unclamped error low high }
 {
     ((unclamped >= high) & (error > 0.0)) | ((unclamped <= low) & (error < 0.0))
 }
@@ -386,7 +376,7 @@ fn pi_finite(
     low: f32,
     high: f32,
 ) -> PiResult
-    ensures { λ r. ⌜ r ≡ spec.piFinite pi dt error p i «max_integral» low high ⌝ }
+    ensures { result ≡ spec.pi_finite pi dt error p i max_integral low high }
 {
     let top = greatest(high, low);
     let pinned = pi_pinned(p * error + i * pi.integral, error, low, top);
@@ -410,7 +400,7 @@ pub fn pi_step(
     high: f32,
     fallback: f32,
 ) -> PiResult
-    ensures { λ r. ⌜ r ≡ spec.piStep pi dt error p i «max_integral» low high fallback ⌝ }
+    ensures { result ≡ spec.pi_step pi dt error p i max_integral low high fallback }
 {
     if is_finite(error) {
         pi_finite(pi, dt, error, p, i, max_integral, low, high)

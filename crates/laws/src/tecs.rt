@@ -1,17 +1,12 @@
 // Total energy control: thrust sets the rate of the total energy, pitch the balance between height and airspeed.
+ghost use Rattle.std.specs.Prelude.{◌≡◌};
+ghost use Rattle.laws.specs.Tecs as spec;
+
 use crate::config::TecsConfig;
-use crate::math::clamp_symmetric;
-use crate::math::lagged;
+use crate::math::{clamp_symmetric, lagged};
 use crate::types::GRAVITY;
-use arithmetic::order::choose;
-use arithmetic::order::clamp;
-use arithmetic::order::clamp_ordered;
-use arithmetic::order::greatest;
-use arithmetic::order::is_finite;
-use arithmetic::order::least;
+use arithmetic::order::{choose, clamp, clamp_ordered, greatest, is_finite, least};
 use arithmetic::trigonometry::cosine;
-ghost use mathlib.Core.Path.{_≡_};
-ghost use Rattle·laws·specs.specs.Tecs as spec;
 
 // Below this airspeed the pitch terms stop growing.
 const MIN_GAIN_AIRSPEED_MPS: f32 = 3.0;
@@ -24,6 +19,7 @@ const THRUST_INTEGRAL_MARGIN: f32 = 0.1;
 
 // Height and airspeed demands, slewed toward the targets.
 #[repr(C)]
+#[derive(Clone, Copy)]
 pub struct Demand {
     pub slewed_height_m: f32,
     pub height_m: f32,
@@ -34,6 +30,7 @@ pub struct Demand {
 // The Rust's three Options (demand, filtered airspeed, steady acceleration) are set and cleared together, so that
 // one flag, `seeded`, says of all three whether they are present; absent, they are +0.
 #[repr(C)]
+#[derive(Clone, Copy)]
 pub struct Tecs {
     pub seeded: u32,
     pub demand: Demand,
@@ -45,6 +42,7 @@ pub struct Tecs {
 }
 
 // The guidance's limits that total energy control flies within.
+#[derive(Clone, Copy)]
 pub struct Limits {
     pub pitch_up_rad: f32,
     pub pitch_down_rad: f32,
@@ -55,6 +53,7 @@ pub struct Limits {
 }
 
 // What one energy step reads: the time step, the targets and the sensors.
+#[derive(Clone, Copy)]
 pub struct Inputs {
     pub dt: f32,
     pub altitude_m: f32,
@@ -66,6 +65,7 @@ pub struct Inputs {
 }
 
 // Energy rates and errors of one step, per unit mass: m²/s² and m²/s³.
+#[derive(Clone, Copy)]
 pub struct Energies {
     pub potential_error: f32,
     pub kinetic_error: f32,
@@ -77,29 +77,34 @@ pub struct Energies {
 }
 
 // The low-passed airspeed, and its rate low-passed.
+#[derive(Clone, Copy)]
 pub struct Filter {
     pub filtered_airspeed_mps: f32,
     pub steady_accel_mps2: f32,
 }
 
 // The energies of one step, with what the step stores of them.
+#[derive(Clone, Copy)]
 pub struct EnergiesResult {
     pub energies: Energies,
     pub demand: Demand,
     pub filter: Filter,
 }
 
+#[derive(Clone, Copy)]
 pub struct ThrustResult {
     pub thrust: f32,
     pub integral: f32,
 }
 
+#[derive(Clone, Copy)]
 pub struct PitchResult {
     pub pitch_rad: f32,
     pub integral_rad: f32,
 }
 
 // One energy step: the energy state after it, pitch and thrust.
+#[derive(Clone, Copy)]
 pub struct TecsResult {
     pub tecs: Tecs,
     pub pitch_rad: f32,
@@ -108,14 +113,14 @@ pub struct TecsResult {
 
 // A stored flag stands where it is not 0.
 pub fn flag(n: u32) -> bool
-    ensures { λ r. ⌜ r ≡ spec.flag n ⌝ }
+    ensures { result ≡ spec.flag n }
 {
     n != 0
 }
 
 // The Rust's Tecs::default, which its reset stores.
 pub fn reset() -> Tecs
-    ensures { λ r. ⌜ r ≡ spec.reset ⌝ }
+    ensures { result ≡ spec.reset }
 {
     Tecs {
         seeded: 0,
@@ -133,7 +138,7 @@ pub fn reset() -> Tecs
 }
 
 pub fn update_underspeed(underspeed: u32, config: TecsConfig, airspeed_mps: f32) -> u32
-    ensures { λ r. ⌜ r ≡ spec.updateUnderspeed underspeed config «airspeed_mps» ⌝ }
+    ensures { result ≡ spec.update_underspeed underspeed config airspeed_mps }
 {
     if airspeed_mps < config.underspeed_share * config.min_airspeed_mps {
         return 1;
@@ -146,19 +151,19 @@ pub fn update_underspeed(underspeed: u32, config: TecsConfig, airspeed_mps: f32)
 }
 
 pub fn max_energy_rate(config: TecsConfig) -> f32
-    ensures { λ r. ⌜ r ≡ spec.maxEnergyRate config ⌝ }
+    ensures { result ≡ spec.max_energy_rate config }
 {
     GRAVITY * config.max_climb_mps
 }
 
 pub fn least_energy_rate(config: TecsConfig) -> f32
-    ensures { λ r. ⌜ r ≡ spec.leastEnergyRate config ⌝ }
+    ensures { result ≡ spec.least_energy_rate config }
 {
     -GRAVITY * config.max_sink_mps
 }
 
 fn clamp_airspeed(config: TecsConfig, airspeed_mps: f32) -> f32
-    ensures { λ r. ⌜ r ≡ spec.clampAirspeed config «airspeed_mps» ⌝ }
+    ensures { result ≡ spec.clamp_airspeed config airspeed_mps }
 {
     let min_mps = config.min_airspeed_mps;
     clamp_ordered(
@@ -169,7 +174,7 @@ fn clamp_airspeed(config: TecsConfig, airspeed_mps: f32) -> f32
 }
 
 fn seed_demand(config: TecsConfig, inputs: Inputs) -> Demand
-    ensures { λ r. ⌜ r ≡ spec.seedDemand config inputs ⌝ }
+    ensures { result ≡ spec.seed_demand config inputs }
 {
     let entry_climb_mps = clamp(inputs.climb_mps, -config.max_sink_mps, config.max_climb_mps);
     Demand {
@@ -180,7 +185,7 @@ fn seed_demand(config: TecsConfig, inputs: Inputs) -> Demand
 }
 
 fn previous_demand(s: Tecs, config: TecsConfig, inputs: Inputs) -> Demand
-    ensures { λ r. ⌜ r ≡ spec.previousDemand s config inputs ⌝ }
+    ensures { result ≡ spec.previous_demand s config inputs }
 {
     if flag(s.seeded) {
         let demand = s.demand;
@@ -191,7 +196,7 @@ fn previous_demand(s: Tecs, config: TecsConfig, inputs: Inputs) -> Demand
 }
 
 fn slewed_height(previous_m: f32, config: TecsConfig, inputs: Inputs) -> f32
-    ensures { λ r. ⌜ r ≡ spec.slewedHeight «previous_m» config inputs ⌝ }
+    ensures { result ≡ spec.slewed_height previous_m config inputs }
 {
     let window_s = greatest(config.time_constant_s, config.height_demand_time_constant_s);
     let rise_m = clamp(
@@ -207,7 +212,7 @@ fn slewed_height(previous_m: f32, config: TecsConfig, inputs: Inputs) -> f32
 }
 
 fn slewed_airspeed(previous_mps: f32, config: TecsConfig, inputs: Inputs, speed_mps: f32) -> f32
-    ensures { λ r. ⌜ r ≡ spec.slewedAirspeed «previous_mps» config inputs «speed_mps» ⌝ }
+    ensures { result ≡ spec.slewed_airspeed previous_mps config inputs speed_mps }
 {
     let max_accel_mps2 = 0.5 * max_energy_rate(config) / speed_mps;
     let target_mps = clamp_airspeed(config, inputs.airspeed_target_mps);
@@ -220,7 +225,7 @@ fn slewed_airspeed(previous_mps: f32, config: TecsConfig, inputs: Inputs, speed_
 }
 
 fn next_demand(d: Demand, config: TecsConfig, inputs: Inputs, speed_mps: f32) -> Demand
-    ensures { λ r. ⌜ r ≡ spec.nextDemand d config inputs «speed_mps» ⌝ }
+    ensures { result ≡ spec.next_demand d config inputs speed_mps }
 {
     let slewed_m = slewed_height(d.slewed_height_m, config, inputs);
     Demand {
@@ -236,13 +241,13 @@ fn next_demand(d: Demand, config: TecsConfig, inputs: Inputs, speed_mps: f32) ->
 }
 
 fn accel_of(filtered_mps: f32, config: TecsConfig, inputs: Inputs) -> f32
-    ensures { λ r. ⌜ r ≡ spec.accelOf «filtered_mps» config inputs ⌝ }
+    ensures { result ≡ spec.accel_of filtered_mps config inputs }
 {
     (inputs.airspeed_mps - filtered_mps) / config.airspeed_rate_time_constant_s
 }
 
 fn previous_filter(s: Tecs, config: TecsConfig, inputs: Inputs) -> Filter
-    ensures { λ r. ⌜ r ≡ spec.previousFilter s config inputs ⌝ }
+    ensures { result ≡ spec.previous_filter s config inputs }
 {
     if flag(s.seeded) {
         Filter {
@@ -258,7 +263,7 @@ fn previous_filter(s: Tecs, config: TecsConfig, inputs: Inputs) -> Filter
 }
 
 fn next_filter(filter: Filter, config: TecsConfig, inputs: Inputs) -> Filter
-    ensures { λ r. ⌜ r ≡ spec.nextFilter filter config inputs ⌝ }
+    ensures { result ≡ spec.next_filter filter config inputs }
 {
     let accel_mps2 = accel_of(filter.filtered_airspeed_mps, config, inputs);
     Filter {
@@ -285,7 +290,7 @@ fn energies_of(
     inputs: Inputs,
     speed_mps: f32,
 ) -> Energies
-    ensures { λ r. ⌜ r ≡ spec.energiesOf previous next filter config inputs «speed_mps» ⌝ }
+    ensures { result ≡ spec.energies_of previous next filter config inputs speed_mps }
 {
     let height_rate_mps = (next.height_m - previous.height_m) / inputs.dt;
     let changing_accel_mps2 = accel_of(filter.filtered_airspeed_mps, config, inputs)
@@ -315,7 +320,7 @@ pub fn update_energies(
     inputs: Inputs,
     speed_mps: f32,
 ) -> EnergiesResult
-    ensures { λ r. ⌜ r ≡ spec.energies s config inputs «speed_mps» ⌝ }
+    ensures { result ≡ spec.energies s config inputs speed_mps }
 {
     let previous = previous_demand(s, config, inputs);
     let demand = next_demand(previous, config, inputs, speed_mps);
@@ -330,7 +335,7 @@ pub fn update_energies(
 }
 
 fn turn_rate(config: TecsConfig, roll_rad: f32) -> f32
-    ensures { λ r. ⌜ r ≡ spec.turnRate config «roll_rad» ⌝ }
+    ensures { result ≡ spec.turn_rate config roll_rad }
 {
     let cos_bank = cosine(roll_rad);
     let cos2 = greatest(cos_bank * cos_bank, MIN_COS2_BANK);
@@ -342,7 +347,7 @@ fn turn_rate(config: TecsConfig, roll_rad: f32) -> f32
 }
 
 fn feedforward(rate: f32, config: TecsConfig, limits: Limits) -> f32
-    ensures { λ r. ⌜ r ≡ spec.feedforward rate config limits ⌝ }
+    ensures { result ≡ spec.feedforward rate config limits }
 {
     let cruise = clamp(limits.cruise_thrust, limits.min_thrust, limits.max_thrust);
     if rate >= 0.0 {
@@ -360,7 +365,7 @@ fn balanced_thrust(
     dt: f32,
     roll_rad: f32,
 ) -> ThrustResult
-    ensures { λ r. ⌜ r ≡ spec.balancedThrust integral config limits e dt «roll_rad» ⌝ }
+    ensures { result ≡ spec.balanced_thrust integral config limits e dt roll_rad }
 {
     let low = limits.min_thrust;
     let high = limits.max_thrust;
@@ -397,7 +402,7 @@ pub fn thrust(
     dt: f32,
     roll_rad: f32,
 ) -> ThrustResult
-    ensures { λ r. ⌜ r ≡ spec.thrust underspeed integral config limits e dt «roll_rad» ⌝ }
+    ensures { result ≡ spec.thrust underspeed integral config limits e dt roll_rad }
 {
     if flag(underspeed) {
         return ThrustResult {
@@ -409,7 +414,7 @@ pub fn thrust(
 }
 
 fn pitch_integral(pinned: bool, integral: f32, step: f32, dt: f32, config: TecsConfig) -> f32
-    ensures { λ r. ⌜ r ≡ spec.pitchIntegral pinned integral step dt config ⌝ }
+    ensures { result ≡ spec.pitch_integral pinned integral step dt config }
 {
     if pinned {
         lagged(integral, 0.0, dt, config.time_constant_s)
@@ -426,7 +431,7 @@ pub fn pitch(
     e: Energies,
     dt: f32,
 ) -> PitchResult
-    ensures { λ r. ⌜ r ≡ spec.pitch underspeed integral config limits e dt ⌝ }
+    ensures { result ≡ spec.pitch underspeed integral config limits e dt }
 {
     let high = limits.pitch_up_rad;
     let low = -limits.pitch_down_rad;
@@ -458,7 +463,7 @@ pub fn pitch(
 }
 
 pub fn all_inputs_finite(inputs: Inputs) -> bool
-    ensures { λ r. ⌜ r ≡ spec.allInputsFinite inputs ⌝ }
+    ensures { result ≡ spec.all_inputs_finite inputs }
 {
     is_finite(inputs.altitude_m)
         & is_finite(inputs.airspeed_target_mps)
@@ -469,7 +474,7 @@ pub fn all_inputs_finite(inputs: Inputs) -> bool
 
 // What the Rust's step gives where an input is not finite.
 pub fn hold(s: Tecs, limits: Limits) -> TecsResult
-    ensures { λ r. ⌜ r ≡ spec.hold s limits ⌝ }
+    ensures { result ≡ spec.hold s limits }
 {
     TecsResult {
         tecs: s,
@@ -480,7 +485,7 @@ pub fn hold(s: Tecs, limits: Limits) -> TecsResult
 
 // What the Rust's step gives where all inputs are finite.
 pub fn energy_step(s: Tecs, config: TecsConfig, limits: Limits, inputs: Inputs) -> TecsResult
-    ensures { λ r. ⌜ r ≡ spec.energyStep s config limits inputs ⌝ }
+    ensures { result ≡ spec.energy_step s config limits inputs }
 {
     let underspeed = update_underspeed(s.underspeed, config, inputs.airspeed_mps);
     let speed_mps = greatest(inputs.airspeed_mps, MIN_GAIN_AIRSPEED_MPS);
@@ -521,7 +526,7 @@ pub fn energy_step(s: Tecs, config: TecsConfig, limits: Limits, inputs: Inputs) 
 
 // The Rust's Tecs::step. The guidance, which names its law first, calls the two parts.
 pub fn step(s: Tecs, config: TecsConfig, limits: Limits, inputs: Inputs) -> TecsResult
-    ensures { λ r. ⌜ r ≡ spec.step s config limits inputs ⌝ }
+    ensures { result ≡ spec.step s config limits inputs }
 {
     if all_inputs_finite(inputs) {
         energy_step(s, config, limits, inputs)

@@ -1,12 +1,14 @@
 // What is kept of the Rust's lib.rs: commands, sensors and setpoints. What `guide_capped` never reads is left out.
+ghost use Rattle.std.specs.Prelude.{◌≡◌};
+ghost use Rattle.laws.specs.Types as spec;
+
 use arithmetic::vector::Vec2;
-ghost use mathlib.Core.Path.{_≡_};
-ghost use Rattle·laws·specs.specs.Types as spec;
 
 // Standard gravity, in m/s².
 pub const GRAVITY: f32 = 9.80665;
 
 #[repr(C)]
+#[derive(Clone, Copy)]
 pub struct Vec3 {
     pub x: f32,
     pub y: f32,
@@ -14,24 +16,28 @@ pub struct Vec3 {
 }
 
 // The Rust's Option<f32>.
+#[derive(Clone, Copy)]
 pub enum OptionF32 {
     None,
     Some(f32),
 }
 
 // The Rust's Option<Vec2>.
+#[derive(Clone, Copy)]
 pub enum OptionVec2 {
     None,
     Some(Vec2),
 }
 
 // Sticks: roll and pitch in [-1, 1], throttle in [0, 1].
+#[derive(Clone, Copy)]
 pub struct AttitudeCommand {
     pub throttle: f32,
     pub roll: f32,
     pub pitch: f32,
 }
 
+#[derive(Clone, Copy)]
 pub struct RateCommand {
     pub throttle: f32,
     pub roll_rate: f32,
@@ -40,6 +46,7 @@ pub struct RateCommand {
 }
 
 // A waypoint: north and east in metres, the leg's velocity where there is a leg.
+#[derive(Clone, Copy)]
 pub struct WaypointCommand {
     pub position_m: Vec2,
     pub velocity_mps: OptionVec2,
@@ -47,12 +54,14 @@ pub struct WaypointCommand {
     pub cruise_speed_mps: f32,
 }
 
+#[derive(Clone, Copy)]
 pub struct AbsoluteAttitudeCommand {
     pub roll_rad: f32,
     pub pitch_rad: f32,
     pub thrust: f32,
 }
 
+#[derive(Clone, Copy)]
 pub struct AbsoluteRateCommand {
     pub roll_radps: f32,
     pub pitch_radps: f32,
@@ -60,6 +69,7 @@ pub struct AbsoluteRateCommand {
     pub thrust: f32,
 }
 
+#[derive(Clone, Copy)]
 pub enum ControlInput {
     Attitude(AttitudeCommand),
     Rate(RateCommand),
@@ -69,12 +79,14 @@ pub enum ControlInput {
     AbsoluteRate(AbsoluteRateCommand),
 }
 
+#[derive(Clone, Copy)]
 pub enum FlightRegime {
     Copter,
     Plane,
 }
 
 // What the sensors report: position and velocity as north, east, up.
+#[derive(Clone, Copy)]
 pub struct VehicleState {
     pub position_m: Vec3,
     pub velocity_mps: Vec3,
@@ -83,6 +95,7 @@ pub struct VehicleState {
 }
 
 // Document 01: a plane setpoint or a plane rate setpoint.
+#[derive(Clone, Copy)]
 pub enum Setpoint {
     Plane {
         roll_rad: f32,
@@ -98,7 +111,7 @@ pub enum Setpoint {
 }
 
 pub fn at_least_zero(a: OptionF32) -> OptionF32
-    ensures { λ r. ⌜ r ≡ spec.atLeastZero a ⌝ }
+    ensures { result ≡ spec.at_least_zero a }
 {
     match a {
         OptionF32::None => OptionF32::None,
@@ -114,7 +127,7 @@ pub fn at_least_zero(a: OptionF32) -> OptionF32
 
 // The airspeed where it is usable: a NaN or a number below 0 counts as none.
 pub fn valid_airspeed_mps(state: VehicleState) -> OptionF32
-    ensures { λ r. ⌜ r ≡ spec.validAirspeed state ⌝ }
+    ensures { result ≡ spec.valid_airspeed state }
 {
     let a = state.airspeed_mps;
     at_least_zero(a)

@@ -1,21 +1,11 @@
 // One function for each law: whether its answer to a row's input is the row's.
-use crate::rows::number;
-use crate::rows::same;
-use crate::rows::word;
+use crate::rows::{number, same, word};
 use arithmetic::vector::Vec2;
-use laws::config;
-use laws::config::PlaneGuidanceConfig;
-use laws::config::TecsConfig;
-use laws::math;
-use laws::navigation;
+use laws::config::{PlaneGuidanceConfig, TecsConfig};
 use laws::navigation::PiLoop;
-use laws::tecs;
-use laws::tecs::Demand;
-use laws::tecs::Energies;
-use laws::tecs::Inputs;
-use laws::tecs::Limits;
-use laws::tecs::Tecs;
+use laws::tecs::{Demand, Energies, Inputs, Limits, Tecs};
 use laws::types::Vec3;
+use laws::{config, math, navigation, tecs};
 
 fn vec2(row: &[u8; 200], n: usize) -> Vec2 {
     Vec2 {

@@ -1,14 +1,9 @@
 -- The text of a line, as bytes: document 01, "Records and desk program". Definitions only.
-use mathlib.Core.Path.{_≡_}
-use mathlib.Core.Bool.{cond}
-use mathlib.Core.List.{List, [], _∷_, _++_}
-use Prim.Native.Nat.{ℕ, zero, suc, _+_, _/_, _%_}
-use lib.Dec.{eqb, ltb}
-use lib.ListN.{length, take}
-use Rattle·fields.specs.Bytes.{putAt}
-use Rattle·lines·specs.specs.declared.Word.{Word}
-use Rattle·lines·specs.specs.declared.Word.the-variants.{None, Plane, Rate, Prime, Track, Loiter, Idle, Energy, Hold, Fallback, Refused, Stopped}
-use Rattle·lines·specs.specs.declared.Line.{Line}
+use Rattle.std.specs.Prelude.{◌≡◌, cond, List, [], ◌∷◌, ◌++◌, ℕ, zero, suc, ◌+◌, ◌/◌, ◌%◌, eqb, ltb, length, take}
+use Rattle.fields.specs.Bytes.{put_at}
+use Rattle.lines.specs.declared.Word.{Word}
+use Rattle.lines.specs.declared.Word.TheVariants.{None, Plane, Rate, Prime, Track, Loiter, Idle, Energy, Hold, Fallback, Refused, Stopped}
+use Rattle.lines.specs.declared.Line.{Line}
 
 -- 0 to 9, a to f
 abbrev pub digit : ℕ → ℕ
@@ -24,13 +19,13 @@ abbrev pub hex8 : ℕ → List ℕ
 hex8 bits = digits 16 8 bits
 
 -- the decimal digits of a number, at most n, with no zero in front
-unfoldable pub decimalIn : ℕ → ℕ → List ℕ
-decimalIn zero v = []
-decimalIn (suc n) v = cond (ltb v 10) (digit v ∷ []) (decimalIn n (v / 10) ++ (digit (v % 10) ∷ []))
+unfoldable pub decimal_in : ℕ → ℕ → List ℕ
+decimal_in zero v = []
+decimal_in (suc n) v = cond (ltb v 10) (digit v ∷ []) (decimal_in n (v / 10) ++ (digit (v % 10) ∷ []))
 
 -- a u32 has at most 10
 abbrev pub decimal : ℕ → List ℕ
-decimal v = decimalIn 10 v
+decimal v = decimal_in 10 v
 
 -- a space and the word's letters
 unfoldable pub word : Word → List ℕ
@@ -69,9 +64,9 @@ numbers r vs = refusal r ++ values vs
 
 -- a line, with its end
 unfoldable pub text : Line → List ℕ
-text l = subject (l .number) ++ words (l .first) (l .second) ++ numbers (l .refusal) (take (l .count) (l .values)) ++ (10 ∷ [])
+text l = subject l.number ++ words l.first l.second ++ numbers l.refusal (take l.count l.values) ++ (10 ∷ [])
 
 -- what a writer does: bytes at the front of a part, whose other bytes are kept, and how many
 pub record Puts (bs before after : List ℕ) (r : ℕ) : Type 0 where
-  pub bytes : after ≡ putAt before 0 bs
+  pub bytes : after ≡ put_at before 0 bs
   pub size : r ≡ length bs

@@ -1,11 +1,11 @@
 // Lines of text: a line is a number, words and a list of numbers. Each writer writes at the front of a lent part, keeps
 // the part's other bytes, and answers how many it wrote.
-ghost use mathlib.Core.Path.{_≡_};
-ghost use mathlib.Core.List.{List};
-ghost use Prim.Native.Nat.{_≤_, _<_, _+_};
-ghost use lib.ListN.{length, take};
-ghost use Rattle·lines·specs.specs.Line.{digit, decimal, hex8, word, words, subject, refusal, values, numbers, text, Puts};
+#![tactic(auto)]
 
+ghost use Rattle.std.specs.Prelude.{◌≡◌, List, ◌≤◌, ◌<◌, ◌+◌, length, take};
+ghost use Rattle.lines.specs.Line.{digit, decimal, hex8, word, words, subject, refusal, values, numbers, text, Puts};
+
+#[derive(Clone, Copy)]
 pub enum Word {
     None,
     Plane,
@@ -22,6 +22,7 @@ pub enum Word {
 }
 
 // `number` 0 is the configuration; `refusal` 0 is none; of `values` the first `count` are printed.
+#[derive(Clone, Copy)]
 pub struct Line {
     pub number: u32,
     pub first: Word,
@@ -32,8 +33,8 @@ pub struct Line {
 }
 
 fn put_bytes(part: &mut [u8], bytes: &[u8]) -> usize
-    requires { ⌜ length (now bytes) ≤ length (now part) ⌝ }
-    ensures { λ r. ⌜ Puts (now (bytes .entry)) (now (part .entry)) (now (part .exit)) r ⌝ }
+    requires { length bytes.now ≤ length part.old }
+    ensures { Puts bytes.now part.old part.new result }
 {
     let mut i = 0;
     while i < bytes.len() {
@@ -44,8 +45,8 @@ fn put_bytes(part: &mut [u8], bytes: &[u8]) -> usize
 }
 
 fn put_word(part: &mut [u8], w: Word) -> usize
-    requires { ⌜ length (word w) ≤ length (now part) ⌝ }
-    ensures { λ r. ⌜ Puts (word w) (now (part .entry)) (now (part .exit)) r ⌝ }
+    requires { length (word w) ≤ length part.old }
+    ensures { Puts (word w) part.old part.new result }
 {
     match w {
         Word::None => 0,
@@ -64,8 +65,8 @@ fn put_word(part: &mut [u8], w: Word) -> usize
 }
 
 fn digit_of(d: u32) -> u8
-    requires { ⌜ d < 16 ⌝ }
-    ensures { λ r. ⌜ r ≡ digit d ⌝ }
+    requires { d < 16 }
+    ensures { result ≡ digit d }
 {
     if d < 10 {
         (48 + d) as u8
@@ -75,8 +76,8 @@ fn digit_of(d: u32) -> u8
 }
 
 fn put_hex(part: &mut [u8], bits: u32) -> usize
-    requires { ⌜ 8 ≤ length (now part) ⌝ }
-    ensures { λ r. ⌜ Puts (hex8 bits) (now (part .entry)) (now (part .exit)) r ⌝ }
+    requires { 8 ≤ length part.old }
+    ensures { Puts (hex8 bits) part.old part.new result }
 {
     let mut v = bits;
     let mut i: usize = 8;
@@ -90,7 +91,7 @@ fn put_hex(part: &mut [u8], bits: u32) -> usize
 
 // How many decimal digits a number has.
 fn width(n: u32) -> usize
-    ensures { λ r. ⌜ r ≡ length (decimal n) ⌝ }
+    ensures { result ≡ length (decimal n) }
 {
     let mut v = n;
     let mut k: usize = 1;
@@ -102,8 +103,8 @@ fn width(n: u32) -> usize
 }
 
 pub fn put_decimal(part: &mut [u8], n: u32) -> usize
-    requires { ⌜ length (decimal n) ≤ length (now part) ⌝ }
-    ensures { λ r. ⌜ Puts (decimal n) (now (part .entry)) (now (part .exit)) r ⌝ }
+    requires { length (decimal n) ≤ length part.old }
+    ensures { Puts (decimal n) part.old part.new result }
 {
     let k = width(n);
     let mut v = n;
@@ -117,8 +118,8 @@ pub fn put_decimal(part: &mut [u8], n: u32) -> usize
 }
 
 fn put_subject(part: &mut [u8], number: u32) -> usize
-    requires { ⌜ length (subject number) ≤ length (now part) ⌝ }
-    ensures { λ r. ⌜ Puts (subject number) (now (part .entry)) (now (part .exit)) r ⌝ }
+    requires { length (subject number) ≤ length part.old }
+    ensures { Puts (subject number) part.old part.new result }
 {
     if number == 0 {
         put_bytes(part, b"config")
@@ -128,8 +129,8 @@ fn put_subject(part: &mut [u8], number: u32) -> usize
 }
 
 fn put_refusal(part: &mut [u8], number: u32) -> usize
-    requires { ⌜ length (refusal number) ≤ length (now part) ⌝ }
-    ensures { λ r. ⌜ Puts (refusal number) (now (part .entry)) (now (part .exit)) r ⌝ }
+    requires { length (refusal number) ≤ length part.old }
+    ensures { Puts (refusal number) part.old part.new result }
 {
     if number == 0 {
         return 0;
@@ -139,8 +140,8 @@ fn put_refusal(part: &mut [u8], number: u32) -> usize
 }
 
 fn put_values(part: &mut [u8], v: [u32; 4], count: usize) -> usize
-    requires { ⌜ (count ≤ 4) × (length (values (take count v)) ≤ length (now part)) ⌝ }
-    ensures { λ r. ⌜ Puts (values (take count v)) (now (part .entry)) (now (part .exit)) r ⌝ }
+    requires { (count ≤ 4) × (length (values (take count v)) ≤ length part.old) }
+    ensures { Puts (values (take count v)) part.old part.new result }
 {
     let mut at = 0;
     let mut i = 0;
@@ -154,24 +155,24 @@ fn put_values(part: &mut [u8], v: [u32; 4], count: usize) -> usize
 }
 
 fn put_words(part: &mut [u8], first: Word, second: Word) -> usize
-    requires { ⌜ length (words first second) ≤ length (now part) ⌝ }
-    ensures { λ r. ⌜ Puts (words first second) (now (part .entry)) (now (part .exit)) r ⌝ }
+    requires { length (words first second) ≤ length part.old }
+    ensures { Puts (words first second) part.old part.new result }
 {
     let at = put_word(part, first);
     at + put_word(&mut part[at..], second)
 }
 
 fn put_numbers(part: &mut [u8], refused: u32, v: [u32; 4], count: usize) -> usize
-    requires { ⌜ (count ≤ 4) × (length (numbers refused (take count v)) ≤ length (now part)) ⌝ }
-    ensures { λ r. ⌜ Puts (numbers refused (take count v)) (now (part .entry)) (now (part .exit)) r ⌝ }
+    requires { (count ≤ 4) × (length (numbers refused (take count v)) ≤ length part.old) }
+    ensures { Puts (numbers refused (take count v)) part.old part.new result }
 {
     let at = put_refusal(part, refused);
     at + put_values(&mut part[at..], v, count)
 }
 
 pub fn put_line(part: &mut [u8], l: Line) -> usize
-    requires { ⌜ (l .count ≤ 4) × (length (text l) ≤ length (now part)) ⌝ }
-    ensures { λ r. ⌜ Puts (text l) (now (part .entry)) (now (part .exit)) r ⌝ }
+    requires { (l.count ≤ 4) × (length (text l) ≤ length part.old) }
+    ensures { Puts (text l) part.old part.new result }
 {
     let first = l.first;
     let second = l.second;

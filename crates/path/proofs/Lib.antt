@@ -1,3 +1,4 @@
--- The loop's invariant, and the laws of drawn paths.
+-- The loop's invariant, what a step keeps, and the laws of drawn paths.
 mod Drawing
 pub mod PathLaws
+mod StepKept

@@ -1,18 +1,16 @@
 // The path into a lent buffer, three numbers a point.
-use crate::model::Model;
-use crate::model::WaypointCall;
-use crate::model::step;
+ghost use Rattle.std.specs.Prelude.{◌≡◌, ◌++◌, ◌≤◌, ◌*◌, length, drop};
+ghost use Rattle.path.specs.Model as model_spec;
+ghost use Rattle.path.specs.Path as spec;
+
+use crate::model::{Model, WaypointCall, step};
 use guidance::plane::PlaneGuidance;
 use laws::types::Vec3;
-ghost use mathlib.Core.Path.{_≡_};
-ghost use mathlib.Core.List.{_++_};
-ghost use Prim.Native.Nat.{_≤_, _*_};
-ghost use lib.ListN.{length, drop};
-ghost use Rattle·path·specs.specs.Path as spec;
 
 // refusal: 0, 12 or 8; drawn: how many points; stopped: 0, or the step at which the path stopped, counted from 1; reason: that
 // step's refusal, 0 for a number that is not finite.
 #[repr(C)]
+#[derive(Clone, Copy)]
 pub struct Drawn {
     pub refusal: u32,
     pub reason: u32,
@@ -21,7 +19,7 @@ pub struct Drawn {
 }
 
 pub fn refused(number: u32) -> Drawn
-    ensures { λ r. ⌜ r ≡ spec.refusedWith number ⌝ }
+    ensures { result ≡ spec.refused_with number }
 {
     Drawn {
         refusal: number,
@@ -32,24 +30,58 @@ pub fn refused(number: u32) -> Drawn
 }
 
 fn put_point(part: &mut [f32], p: Vec3)
-    requires { ⌜ 3 ≤ length (now part) ⌝ }
-    ensures { λ _. ⌜ now (part .exit) ≡ spec.numbersOf p ++ drop 3 (now (part .entry)) ⌝ }
+    requires { 3 ≤ length part.old }
+    ensures { part.new ≡ spec.numbers_of p ++ drop 3 part.old }
 {
     part[0] = p.x;
     part[1] = p.y;
     part[2] = p.z;
 }
 
-fn draw_steps(start: Model, call: WaypointCall, steps: usize, out: &mut [f32]) -> Drawn
-    requires { ⌜ (steps ≤ 600) × (3 * steps ≤ length (now out)) ⌝ }
-    ensures { λ r. ⌜ (r ≡ spec.told (spec.path steps call start)) × (now (out .exit) ≡ spec.put (spec.path steps call start .points) (now (out .entry))) ⌝ }
+// Whether a step moved the model, and else why not.
+#[derive(Clone, Copy)]
+struct Moved {
+    moved: bool,
+    reason: u32,
+}
+
+// One step in place, out of line, so that a path stays within the stack that include/nuthkolla.h names: in the loop's own line what no
+// step changes would be worked out before the loop and kept on the stack. A step changes no configuration, so they are not put back.
+#[inline(never)]
+fn advance(m: &mut Model, call: &WaypointCall) -> Moved
+    ensures { record { moved = result.moved; reason = result.reason; model = m.new } ≡ model_spec.step call.now m.old }
 {
-    let mut m = start;
+    let guidance = PlaneGuidance {
+        config: m.guidance.config,
+        requested: m.guidance.requested,
+        altitude: m.guidance.altitude,
+        tecs: m.guidance.tecs,
+        former: m.guidance.former,
+    };
+    let state = m.state;
+    let s = step(Model { guidance, state }, *call);
+    if s.moved {
+        m.guidance.requested = s.model.guidance.requested;
+        m.guidance.altitude = s.model.guidance.altitude;
+        m.guidance.tecs = s.model.guidance.tecs;
+        m.state = s.model.state;
+    }
+    Moved {
+        moved: s.moved,
+        reason: s.reason,
+    }
+}
+
+fn draw_steps(g: PlaneGuidance, call: WaypointCall, steps: usize, out: &mut [f32]) -> Drawn
+    requires { (steps ≤ 600) × (3 * steps ≤ length out.old) }
+    ensures { (result ≡ spec.told (spec.path steps call (spec.start g call))) × (out.new ≡ spec.put (spec.path steps call (spec.start g call)).points out.old) }
+{
+    let state = call.state;
+    let mut m = Model { guidance: g, state };
     let mut n: usize = 0;
     while n < steps {
-        let s = step(m, call);
+        let s = advance(&mut m, &call);
         if s.moved {
-            m = s.model;
             let state = m.state;
             let point = state.position_m;
             let at = 3 * n;
@@ -74,7 +106,7 @@ fn draw_steps(start: Model, call: WaypointCall, steps: usize, out: &mut [f32]) -
 
 // The path of a waypoint call, of up to 600 steps. The guidance is the caller's own, by value, and stays as it is.
 pub fn draw_path(g: PlaneGuidance, call: WaypointCall, steps: usize, out: &mut [f32]) -> Drawn
-    ensures { λ r. ⌜ (r ≡ spec.answer g call steps (length (now (out .entry)))) × (now (out .exit) ≡ spec.buffer g call steps (now (out .entry))) ⌝ }
+    ensures { (result ≡ spec.answer g call steps (length out.old)) × (out.new ≡ spec.buffer g call steps out.old) }
 {
     if steps == 0 {
         return refused(12);
@@ -85,6 +117,5 @@ pub fn draw_path(g: PlaneGuidance, call: WaypointCall, steps: usize, out: &mut [
     if out.len() < 3 * steps {
         return refused(8);
     }
-    let state = call.state;
-    draw_steps(Model { guidance: g, state }, call, steps, out)
+    draw_steps(g, call, steps, out)
 }

@@ -1,24 +1,17 @@
 // One step of the drawn path: the guidance's answer, and a simple plane that banks and pitches at once as it says.
-use arithmetic::order::clamp_ordered;
-use arithmetic::order::is_finite;
-use arithmetic::trigonometry::FRAC_PI_2;
-use arithmetic::trigonometry::cosine;
-use arithmetic::trigonometry::sine;
-use arithmetic::vector::Vec2;
-use arithmetic::vector::norm;
-use guidance::plane::Answer;
-use guidance::plane::PlaneGuidance;
-use laws::types::FlightRegime;
-use laws::types::GRAVITY;
-use laws::types::OptionF32;
-use laws::types::Setpoint;
-use laws::types::Vec3;
-use laws::types::VehicleState;
-use laws::types::WaypointCommand;
-ghost use mathlib.Core.Path.{_≡_};
-ghost use Rattle·path·specs.specs.Model as spec;
+ghost use Rattle.std.specs.Prelude.{◌≡◌};
+ghost use Rattle.path.specs.Model as spec;
+
+use arithmetic::order::{clamp_ordered, is_finite};
+use arithmetic::trigonometry::{FRAC_PI_2, cosine, sine};
+use arithmetic::vector::{Vec2, norm};
+use guidance::plane::{Answer, PlaneGuidance};
+use laws::types::{
+    FlightRegime, GRAVITY, OptionF32, Setpoint, Vec3, VehicleState, WaypointCommand,
+};
 
 // A waypoint call: what `guide_step` takes besides the guidance.
+#[derive(Clone, Copy)]
 pub struct WaypointCall {
     pub dt: f32,
     pub regime: FlightRegime,
@@ -28,6 +21,7 @@ pub struct WaypointCall {
 }
 
 // The guidance, and what the sensors of the model's plane would report.
+#[derive(Clone, Copy)]
 pub struct Model {
     pub guidance: PlaneGuidance,
     pub state: VehicleState,
@@ -35,6 +29,7 @@ pub struct Model {
 
 // What a step gives: the model after it, or, where it stopped, the model as it was and the refusal's number, 0 for a number
 // that is not finite.
+#[derive(Clone, Copy)]
 pub struct Stepped {
     pub moved: bool,
     pub reason: u32,
@@ -43,7 +38,7 @@ pub struct Stepped {
 
 // No turn below 1.0 m/s.
 fn turn_rate(roll_rad: f32, speed_mps: f32) -> f32
-    ensures { λ r. ⌜ r ≡ spec.turnRate «roll_rad» «speed_mps» ⌝ }
+    ensures { result ≡ spec.turn_rate roll_rad speed_mps }
 {
     if speed_mps < 1.0 {
         0.0
@@ -53,14 +48,14 @@ fn turn_rate(roll_rad: f32, speed_mps: f32) -> f32
 }
 
 fn turn_in_step(roll_rad: f32, speed_mps: f32, dt: f32) -> f32
-    ensures { λ r. ⌜ r ≡ spec.turnInStep «roll_rad» «speed_mps» dt ⌝ }
+    ensures { result ≡ spec.turn_in_step roll_rad speed_mps dt }
 {
     let rate = turn_rate(roll_rad, speed_mps);
     clamp_ordered(rate * dt, -FRAC_PI_2, FRAC_PI_2)
 }
 
 fn turned_right(velocity_mps: Vec3, turn_rad: f32) -> Vec2
-    ensures { λ r. ⌜ r ≡ spec.turnedRight «velocity_mps» «turn_rad» ⌝ }
+    ensures { result ≡ spec.turned_right velocity_mps turn_rad }
 {
     let c = cosine(turn_rad);
     let s = sine(turn_rad);
@@ -71,7 +66,7 @@ fn turned_right(velocity_mps: Vec3, turn_rad: f32) -> Vec2
 }
 
 fn speed_or(airspeed_mps: OptionF32, speed_mps: f32) -> f32
-    ensures { λ r. ⌜ r ≡ spec.speedOr «airspeed_mps» «speed_mps» ⌝ }
+    ensures { result ≡ spec.speed_or airspeed_mps speed_mps }
 {
     match airspeed_mps {
         OptionF32::None => speed_mps,
@@ -81,7 +76,7 @@ fn speed_or(airspeed_mps: OptionF32, speed_mps: f32) -> f32
 
 // The plane after a step that the guidance answered with this roll and pitch.
 fn flown(state: VehicleState, dt: f32, roll_rad: f32, pitch_rad: f32) -> VehicleState
-    ensures { λ r. ⌜ r ≡ spec.flown state dt «roll_rad» «pitch_rad» ⌝ }
+    ensures { result ≡ spec.flown state dt roll_rad pitch_rad }
 {
     let position = state.position_m;
     let velocity = state.velocity_mps;
@@ -110,13 +105,13 @@ fn flown(state: VehicleState, dt: f32, roll_rad: f32, pitch_rad: f32) -> Vehicle
 }
 
 fn all_finite(v: Vec3) -> bool
-    ensures { λ r. ⌜ r ≡ spec.allFinite v ⌝ }
+    ensures { result ≡ spec.all_finite v }
 {
     is_finite(v.x) & is_finite(v.y) & is_finite(v.z)
 }
 
 fn stopped(m: Model, reason: u32) -> Stepped
-    ensures { λ r. ⌜ r ≡ spec.stopped m reason ⌝ }
+    ensures { result ≡ spec.stopped m reason }
 {
     Stepped {
         moved: false,
@@ -127,7 +122,7 @@ fn stopped(m: Model, reason: u32) -> Stepped
 
 // The step that leads to this state; none where a number of its position or velocity is not finite.
 fn settled(m: Model, guidance: PlaneGuidance, state: VehicleState) -> Stepped
-    ensures { λ r. ⌜ r ≡ spec.settled m guidance state ⌝ }
+    ensures { result ≡ spec.settled m guidance state }
 {
     let position = state.position_m;
     let velocity = state.velocity_mps;
@@ -144,7 +139,7 @@ fn settled(m: Model, guidance: PlaneGuidance, state: VehicleState) -> Stepped
 
 // A waypoint answers no rates.
 fn by_setpoint(m: Model, dt: f32, guidance: PlaneGuidance, setpoint: Setpoint) -> Stepped
-    ensures { λ r. ⌜ r ≡ spec.bySetpoint m dt guidance setpoint ⌝ }
+    ensures { result ≡ spec.by_setpoint m dt guidance setpoint }
 {
     match setpoint {
         Setpoint::Plane {
@@ -165,7 +160,7 @@ fn by_setpoint(m: Model, dt: f32, guidance: PlaneGuidance, setpoint: Setpoint) -
 }
 
 fn by_answer(m: Model, dt: f32, guidance: PlaneGuidance, answer: Answer) -> Stepped
-    ensures { λ r. ⌜ r ≡ spec.byAnswer m dt guidance answer ⌝ }
+    ensures { result ≡ spec.by_answer m dt guidance answer }
 {
     match answer {
         Answer::Refused(n) => stopped(m, n),
@@ -179,7 +174,7 @@ fn by_answer(m: Model, dt: f32, guidance: PlaneGuidance, answer: Answer) -> Step
 
 // One step: the call's waypoint, time step, regime and cap at the model's state.
 pub fn step(m: Model, call: WaypointCall) -> Stepped
-    ensures { λ r. ⌜ r ≡ spec.step call m ⌝ }
+    ensures { result ≡ spec.step call m }
 {
     let g = m.guidance;
     let state = m.state;

@@ -1,278 +1,278 @@
 -- The laws of the call record. Assumes nothing.
-use mathlib.Core.Path.{_≡_, refl, sym, ap, subst, _∙_}
-use mathlib.Core.Bool.{Bool, true, false, cond, not, _&&_, _||_}
-use mathlib.Core.List.{List, [], _∷_, _++_, append-assoc}
-use Prim.Native.Nat.{ℕ, zero, suc, _+_, _-_, _*_, _/_, _%_, _<_, _≤_, _^_}
+use mathlib.Core.Path.{◌≡◌, refl, sym, ap, subst, ◌∙◌}
+use mathlib.Core.Bool.{Bool, true, false, cond, not, ◌&&◌}
+use mathlib.Core.List.{List, [], ◌∷◌, ◌++◌, append_assoc}
+use Prim.Native.Nat.{ℕ, zero, suc, ◌+◌, ◌-◌, ◌*◌, ◌/◌, ◌%◌, ◌<◌, ◌≤◌, ◌^◌}
 use native.Mathlib.Omega.{arith}
-use native.Mathlib.Nat.{pow-suc, mul-comm, div-div-eq-div-mul}
+use native.Mathlib.Nat.{pow-suc, mul_comm, div-div-eq-div-mul}
 use borrow.Author.Tests.{le-leb, le-ltb, lt-ltb, eq-eqb, eqb-true}
-use lib.Dec.{T, eqb, ltb, lit<}
+use lib.Dec.{T, eqb, lit<}
 use lib.Pow.{pow-add}
-use lib.ListN.{length, drop, getD, replicate, getD-replicate, length-append, length-drop}
+use lib.ListN.{length, drop, get_or, replicate, get_or-replicate, length-append, length-drop}
 use lib.Seq.{drop-drop}
-use lib.Ieee.{Float, nan, binary32, fits, ofBits, toBits}
-use lib.Ieee.Bits.{ofBits-fits}
-use Rattle·laws.specs.declared.types.OptionF32.{OptionF32}
-use Rattle·laws.specs.declared.types.OptionF32.the-variants as number
-use Rattle·laws.specs.declared.types.OptionVec2.{OptionVec2}
-use Rattle·laws.specs.declared.types.OptionVec2.the-variants as leg
-use Rattle·laws.specs.declared.types.WaypointCommand.{WaypointCommand}
-use Rattle·laws.specs.declared.types.VehicleState.{VehicleState}
-use Rattle·laws.specs.declared.types.FlightRegime.{FlightRegime}
-use Rattle·laws.specs.declared.types.FlightRegime.the-variants.{Copter, Plane}
-use Rattle·fields.specs.Bytes.{numberAt, bytesOf, hasBytes}
-use Rattle·fields.specs.Fields.{Field, stands, named, sizeOf, valuesAt, isWritten, bitOf, mapOf, bodyOf, numberFields, Held}
-use Rattle·fields.specs.Numbers.{floatsOf, bitsOf, AreF32}
-use Rattle·fields.proofs.NumberLaw.{bytes-long, number-back, drop-bytes}
-use Rattle·fields.proofs.MapLaw.{bits-length, floats-length}
-use Rattle·fields.proofs.FieldLaw.{ones-le, values-long, body-long}
-use Rattle·fields.proofs.RecordLaw.{map-small, map-bit, fieldAt, fields-back, Within, size-within, halved, value-missing, floats-back, floats-are, bits-held, getD-mapped}
-use Rattle·fields.proofs.LawsProof.{laws}
-use Rattle·records.specs.declared.call.ByteRead.{ByteRead}
-use Rattle·records.specs.declared.call.Call.{Call}
-use Rattle·records.specs.declared.call.Call.the-variants.{Prime, Attitude, Rate, Waypoint, AbsoluteAttitude, Land, AbsoluteRate}
-use Rattle·records.specs.declared.call_writer.Parts.{Parts}
-use Rattle·records.specs.declared.call.ReadCall.the-variants.{Read, Refused}
-use Rattle·records.specs.Call.{
-  callFields,
+use lib.Ieee.{Float, nan, binary32, fits, of_bits, to_bits}
+use lib.Ieee.Bits.{of_bits-fits}
+use Rattle.laws.specs.declared.types.OptionF32.{OptionF32}
+use Rattle.laws.specs.declared.types.OptionF32.TheVariants as number
+use Rattle.laws.specs.declared.types.OptionVec2.{OptionVec2}
+use Rattle.laws.specs.declared.types.OptionVec2.TheVariants as leg
+use Rattle.laws.specs.declared.types.WaypointCommand.{WaypointCommand}
+use Rattle.laws.specs.declared.types.VehicleState.{VehicleState}
+use Rattle.laws.specs.declared.types.FlightRegime.{FlightRegime}
+use Rattle.laws.specs.declared.types.FlightRegime.TheVariants.{Copter, Plane}
+use Rattle.fields.specs.Bytes.{number_at, bytes_of, has_bytes}
+use Rattle.fields.specs.Fields.{stands, named, size_of, values_at, is_written, bit_of, map_of, body_of, number_fields, Held}
+use Rattle.fields.specs.Numbers.{floats_of, bits_of, AreF32}
+use Rattle.fields.proofs.NumberLaw.{bytes_long, number_back, drop_bytes}
+use Rattle.fields.proofs.MapLaw.{bits_length, floats_length}
+use Rattle.fields.proofs.FieldLaw.{ones_le, values_long, body_long}
+use Rattle.fields.proofs.RecordLaw.{map_small, map_bit, field_at, fields_back, Within, size_within, halved, value_missing, floats_back, floats_are, bits_held, get_d_mapped}
+use Rattle.fields.proofs.LawsProof.{laws}
+use Rattle.records.specs.declared.call.ByteRead.{ByteRead}
+use Rattle.records.specs.declared.call.Call.{Call}
+use Rattle.records.specs.declared.call.Call.TheVariants.{Prime, Attitude, Rate, Waypoint, AbsoluteAttitude, Land, AbsoluteRate}
+use Rattle.records.specs.declared.call_writer.Parts.{Parts}
+use Rattle.records.specs.declared.call.ReadCall.TheVariants.{Read, Refused}
+use Rattle.records.specs.Call.{
+  call_fields,
   complete,
   unknown,
-  regimeOf,
-  optionOf,
-  legOf,
-  attitudeAt,
-  rateAt,
-  absoluteAttitudeAt,
-  absoluteRateAt,
-  waypointAt,
-  stateAt,
-  callAt,
-  readCall,
-  regimeByte,
-  numberOr0,
-  hasNumber,
-  legNorth,
-  legEast,
-  hasLeg,
-  commandParts,
-  waypointParts,
-  partsOf,
-  valuesOf,
-  mapOfParts,
-  callRecord,
+  regime_of,
+  option_of,
+  leg_of,
+  attitude_at,
+  rate_at,
+  absolute_attitude_at,
+  absolute_rate_at,
+  waypoint_at,
+  state_at,
+  call_at,
+  read_call,
+  regime_byte,
+  number_or0,
+  has_number,
+  leg_north,
+  leg_east,
+  has_leg,
+  command_parts,
+  waypoint_parts,
+  parts_of,
+  values_of,
+  map_of_parts,
+  call_record,
 }
-use Rattle·records.specs.Call as spec
-use Rattle·records.specs.code.Steps.{byteAt}
-use Rattle·record_laws·specs.specs.Laws.{CallF32, CallLaws, CallLongest}
-use Rattle·records.proofs.CallLaw.{fields-long, fields-are, size-is, Numbers, parts-long, regime-le, values-byte, byte-missing}
+use Rattle.records.specs.Call as spec
+use Rattle.records.specs.Code.Steps.{byte_at}
+use Rattle.record_laws.specs.Laws.{CallF32, CallLaws, CallLongest}
+use Rattle.records.proofs.CallLaw.{fields_long, fields_are, size_is, Numbers, parts_long, regime_le, values_byte, byte_missing}
 
 -- ---- the parts of a call
 
-kind-le : (c : Call) → partsOf c .kind ≤ 6
-unfolding partsOf commandParts waypointParts
-kind-le Prime = omega arith
-kind-le (Attitude r dt c) = omega arith
-kind-le (Rate r dt c) = omega arith
-kind-le (Waypoint r dt c s cap) = omega arith
-kind-le (AbsoluteAttitude r dt c) = omega arith
-kind-le (Land r dt) = omega arith
-kind-le (AbsoluteRate r dt c) = omega arith
+kind_le : (c : Call) → (parts_of c).kind ≤ 6
+unfolding parts_of command_parts waypoint_parts
+kind_le Prime = omega arith
+kind_le (Attitude r dt c) = omega arith
+kind_le (Rate r dt c) = omega arith
+kind_le (Waypoint r dt c s cap) = omega arith
+kind_le (AbsoluteAttitude r dt c) = omega arith
+kind_le (Land r dt) = omega arith
+kind_le (AbsoluteRate r dt c) = omega arith
 
-keeps-long : (c : Call) → length (partsOf c .keeps) ≡ 20
-unfolding partsOf commandParts waypointParts
-keeps-long Prime = refl
-keeps-long (Attitude r dt c) = refl
-keeps-long (Rate r dt c) = refl
-keeps-long (Waypoint r dt c s cap) = refl
-keeps-long (AbsoluteAttitude r dt c) = refl
-keeps-long (Land r dt) = refl
-keeps-long (AbsoluteRate r dt c) = refl
+keeps_long : (c : Call) → length (parts_of c).keeps ≡ 20
+unfolding parts_of command_parts waypoint_parts
+keeps_long Prime = refl
+keeps_long (Attitude r dt c) = refl
+keeps_long (Rate r dt c) = refl
+keeps_long (Waypoint r dt c s cap) = refl
+keeps_long (AbsoluteAttitude r dt c) = refl
+keeps_long (Land r dt) = refl
+keeps_long (AbsoluteRate r dt c) = refl
 
 -- the flags and the values of a call's fields
 abbrev Flags : Call → List ℕ
-Flags c = 1 ∷ 0 ∷ partsOf c .keeps
+Flags c = 1 ∷ 0 ∷ (parts_of c).keeps
 
-flags-long : (c : Call) → length (Flags c) ≡ length callFields
-flags-long c = rw (keeps-long c, fields-long)
+flags_long : (c : Call) → length (Flags c) ≡ length call_fields
+flags_long c = rw (keeps_long c, fields_long)
 
-values-length : (c : Call) → length (valuesOf (partsOf c)) ≡ length callFields
-unfolding valuesOf
-values-length c = rw (bits-length (partsOf c .numbers), parts-long c, fields-long)
+values_length : (c : Call) → length (values_of (parts_of c)) ≡ length call_fields
+unfolding values_of
+values_length c = rw (bits_length (parts_of c).numbers, parts_long c, fields_long)
 
 abbrev Map : Call → ℕ
-Map c = mapOfParts (partsOf c)
+Map c = map_of_parts (parts_of c)
 
-map-is : (c : Call) → Map c ≡ mapOf callFields (Flags c) (valuesOf (partsOf c))
-unfolding mapOfParts
-map-is c = refl
+map_is : (c : Call) → Map c ≡ map_of call_fields (Flags c) (values_of (parts_of c))
+unfolding map_of_parts
+map_is c = refl
 
-map-below : (c : Call) → Map c < 2 ^ 22
-map-below c = rw (map-is c) (rw fields-long at (map-small callFields (Flags c) (valuesOf (partsOf c))))
+map_below : (c : Call) → Map c < 2 ^ 22
+map_below c = rw (map_is c) (rw fields_long at (map_small call_fields (Flags c) (values_of (parts_of c))))
 
-pub values-held : (c : Call) → CallF32 c → Held callFields (valuesOf (partsOf c))
-unfolding Held valuesOf
-values-held c f = rw fields-are (omega (arith, kind-le c), (omega (arith, regime-le c), bits-held (replicate 20 0) (partsOf c .numbers) (parts-long c) f))
+pub values_held : (c : Call) → CallF32 c → Held call_fields (values_of (parts_of c))
+unfolding Held values_of
+values_held c f = rw fields_are (omega (arith, kind_le c), (omega (arith, regime_le c), bits_held (replicate 20 0) (parts_of c).numbers (parts_long c) f))
 
 -- ---- the map of a call is complete
 
 -- +0 is left out, unless it must be written
-zero-out : isWritten 0 (toBits binary32 spec.zero) 0 ≡ false
-unfolding toBits ofBits
-zero-out = refl
+zero_out : is_written 0 (to_bits binary32 spec.zero) 0 ≡ false
+unfolding to_bits of_bits
+zero_out = refl
 
 -- bit n of the map of a call
-bit-is : (c : Call) (n : ℕ) → n < 22 → Map c / 2 ^ n % 2 ≡ bitOf (isWritten (getD (Flags c) n 0) (getD (valuesOf (partsOf c)) n 0) (fieldAt callFields n .missing))
-bit-is c n h = rw (map-is c) (map-bit n callFields (Flags c) (valuesOf (partsOf c)) (rw fields-long h) (flags-long c) (values-length c))
+bit_is : (c : Call) (n : ℕ) → n < 22 → Map c / 2 ^ n % 2 ≡ bit_of (is_written (get_or (Flags c) n 0) (get_or (values_of (parts_of c)) n 0) (field_at call_fields n).missing)
+bit_is c n h = rw (map_is c) (map_bit n call_fields (Flags c) (values_of (parts_of c)) (rw fields_long h) (flags_long c) (values_length c))
 
 -- a leg's two parts are written or left out together
-leg-alike : (l : OptionVec2) → isWritten (hasLeg l) (toBits binary32 (legNorth l)) 0 ≡ isWritten (hasLeg l) (toBits binary32 (legEast l)) 0
-leg-alike leg.None = refl
-leg-alike (leg.Some l) = refl
+leg_alike : (l : OptionVec2) → is_written (has_leg l) (to_bits binary32 (leg_north l)) 0 ≡ is_written (has_leg l) (to_bits binary32 (leg_east l)) 0
+leg_alike leg.None = refl
+leg_alike (leg.Some l) = refl
 
-alike : (c : Call) → isWritten (getD (Flags c) 9 0) (getD (valuesOf (partsOf c)) 9 0) 0 ≡ isWritten (getD (Flags c) 10 0) (getD (valuesOf (partsOf c)) 10 0) 0
-unfolding valuesOf bitsOf partsOf commandParts waypointParts
+alike : (c : Call) → is_written (get_or (Flags c) 9 0) (get_or (values_of (parts_of c)) 9 0) 0 ≡ is_written (get_or (Flags c) 10 0) (get_or (values_of (parts_of c)) 10 0) 0
+unfolding values_of bits_of parts_of command_parts waypoint_parts
 alike Prime = refl
 alike (Attitude r dt c) = refl
 alike (Rate r dt c) = refl
-alike (Waypoint r dt c s cap) = leg-alike (c .«velocity_mps»)
+alike (Waypoint r dt c s cap) = leg_alike c.velocity_mps
 alike (AbsoluteAttitude r dt c) = refl
 alike (Land r dt) = refl
 alike (AbsoluteRate r dt c) = refl
 
-missing-9 : fieldAt callFields 9 .missing ≡ 0
-unfolding callFields numberFields
-missing-9 = refl
+missing_9 : (field_at call_fields 9).missing ≡ 0
+unfolding call_fields number_fields
+missing_9 = refl
 
-missing-10 : fieldAt callFields 10 .missing ≡ 0
-unfolding callFields numberFields
-missing-10 = refl
+missing_10 : (field_at call_fields 10).missing ≡ 0
+unfolding call_fields number_fields
+missing_10 = refl
 
-missing-20 : fieldAt callFields 20 .missing ≡ 0
-unfolding callFields numberFields
-missing-20 = refl
+missing_20 : (field_at call_fields 20).missing ≡ 0
+unfolding call_fields number_fields
+missing_20 = refl
 
-missing-21 : fieldAt callFields 21 .missing ≡ 0
-unfolding callFields numberFields
-missing-21 = refl
+missing_21 : (field_at call_fields 21).missing ≡ 0
+unfolding call_fields number_fields
+missing_21 = refl
 
-kind-stands : (c : Call) → stands (Map c) ≡ true
-kind-stands c =
-    let b : Map c / 2 ^ 0 % 2 ≡ 1 = bit-is c 0 (lit< tt) in
+kind_stands : (c : Call) → stands (Map c) ≡ true
+kind_stands c =
+    let b : Map c / 2 ^ 0 % 2 ≡ 1 = bit_is c 0 (lit< tt) in
     eq-eqb (Map c % 2) 1 (omega arith)
 
-pub complete-is : (c : Call) → complete (Map c) ≡ true
+pub complete_is : (c : Call) → complete (Map c) ≡ true
 unfolding complete
-complete-is c =
-    let nine = rw missing-9 at (bit-is c 9 (lit< tt)) in
-    let ten = rw missing-10 at (bit-is c 10 (lit< tt)) in
-    rw (fields-long, lt-ltb (Map c) (2 ^ 22) (map-below c), kind-stands c, eq-eqb _ _ (nine ∙ ap bitOf (alike c) ∙ sym ten))
+complete_is c =
+    let nine = rw missing_9 at (bit_is c 9 (lit< tt)) in
+    let ten = rw missing_10 at (bit_is c 10 (lit< tt)) in
+    rw (fields_long, lt-ltb (Map c) (2 ^ 22) (map_below c), kind_stands c, eq-eqb _ _ (nine ∙ ap bit_of (alike c) ∙ sym ten))
 
 -- ---- a call comes back from its parts
 
-regime-back : (r : FlightRegime) → regimeOf (regimeByte r) ≡ r
-unfolding regimeOf
-regime-back Copter = refl
-regime-back Plane = refl
+regime_back : (r : FlightRegime) → regime_of (regime_byte r) ≡ r
+unfolding regime_of
+regime_back Copter = refl
+regime_back Plane = refl
 
-plane-is : regimeOf 1 ≡ Plane
-unfolding regimeOf
-plane-is = refl
+plane_is : regime_of 1 ≡ Plane
+unfolding regime_of
+plane_is = refl
 
-leg-back : (l : OptionVec2) (m : ℕ) → m % 2 ≡ bitOf (isWritten (hasLeg l) (toBits binary32 (legNorth l)) 0) → legOf m (legNorth l) (legEast l) ≡ l
-unfolding legOf
-leg-back leg.None m e = rw (e, zero-out)
-leg-back (leg.Some l) m e = rw e
+leg_back : (l : OptionVec2) (m : ℕ) → m % 2 ≡ bit_of (is_written (has_leg l) (to_bits binary32 (leg_north l)) 0) → leg_of m (leg_north l) (leg_east l) ≡ l
+unfolding leg_of
+leg_back leg.None m e = rw (e, zero_out)
+leg_back (leg.Some l) m e = rw e
 
-option-back : (x : OptionF32) (m : ℕ) → m % 2 ≡ bitOf (isWritten (hasNumber x) (toBits binary32 (numberOr0 x)) 0) → optionOf m (numberOr0 x) ≡ x
-unfolding optionOf
-option-back number.None m e = rw (e, zero-out)
-option-back (number.Some x) m e = rw e
+option_back : (x : OptionF32) (m : ℕ) → m % 2 ≡ bit_of (is_written (has_number x) (to_bits binary32 (number_or0 x)) 0) → option_of m (number_or0 x) ≡ x
+unfolding option_of
+option_back number.None m e = rw (e, zero_out)
+option_back (number.Some x) m e = rw e
 
 -- the bits of a waypoint's leg, airspeed and cap
 module _ (r : FlightRegime) (dt : Float) (c : WaypointCommand) (s : VehicleState) (cap : OptionF32) where
   abbrev W : Call
   W = Waypoint r dt c s cap
 
-  leg-bit : Map W / 2 ^ 9 % 2 ≡ bitOf (isWritten (hasLeg (c .«velocity_mps»)) (toBits binary32 (legNorth (c .«velocity_mps»))) 0)
-  unfolding valuesOf bitsOf partsOf waypointParts
-  leg-bit = rw missing-9 at (bit-is W 9 (lit< tt))
+  leg_bit : Map W / 2 ^ 9 % 2 ≡ bit_of (is_written (has_leg c.velocity_mps) (to_bits binary32 (leg_north c.velocity_mps)) 0)
+  unfolding values_of bits_of parts_of waypoint_parts
+  leg_bit = rw missing_9 at (bit_is W 9 (lit< tt))
 
-  airspeed-bit : Map W / 2 ^ 20 % 2 ≡ bitOf (isWritten (hasNumber (s .«airspeed_mps»)) (toBits binary32 (numberOr0 (s .«airspeed_mps»))) 0)
-  unfolding valuesOf bitsOf partsOf waypointParts
-  airspeed-bit = rw missing-20 at (bit-is W 20 (lit< tt))
+  airspeed_bit : Map W / 2 ^ 20 % 2 ≡ bit_of (is_written (has_number s.airspeed_mps) (to_bits binary32 (number_or0 s.airspeed_mps)) 0)
+  unfolding values_of bits_of parts_of waypoint_parts
+  airspeed_bit = rw missing_20 at (bit_is W 20 (lit< tt))
 
-  cap-bit : Map W / 2 ^ 21 % 2 ≡ bitOf (isWritten (hasNumber cap) (toBits binary32 (numberOr0 cap)) 0)
-  unfolding valuesOf bitsOf partsOf waypointParts
-  cap-bit = rw missing-21 at (bit-is W 21 (lit< tt))
+  cap_bit : Map W / 2 ^ 21 % 2 ≡ bit_of (is_written (has_number cap) (to_bits binary32 (number_or0 cap)) 0)
+  unfolding values_of bits_of parts_of waypoint_parts
+  cap_bit = rw missing_21 at (bit_is W 21 (lit< tt))
 
-  waypoint-back : (m : ℕ) → m ≡ Map W → callAt 3 (regimeOf (regimeByte r)) m (partsOf W .numbers) ≡ W
-  unfolding callAt waypointAt stateAt partsOf waypointParts
-  waypoint-back m e =
+  waypoint_back : (m : ℕ) → m ≡ Map W → call_at 3 (regime_of (regime_byte r)) m (parts_of W).numbers ≡ W
+  unfolding call_at waypoint_at state_at parts_of waypoint_parts
+  waypoint_back m e =
       rw (
-        regime-back r,
-        leg-back (c .«velocity_mps») (m / 2 ^ 9) (rw e leg-bit),
-        option-back (s .«airspeed_mps») (m / 2 ^ 20) (rw e airspeed-bit),
-        option-back cap (m / 2 ^ 21) (rw e cap-bit),
+        regime_back r,
+        leg_back c.velocity_mps (m / 2 ^ 9) (rw e leg_bit),
+        option_back s.airspeed_mps (m / 2 ^ 20) (rw e airspeed_bit),
+        option_back cap (m / 2 ^ 21) (rw e cap_bit),
       )
 
-call-back : (c : Call) (m : ℕ) → m ≡ Map c → callAt (partsOf c .kind) (regimeOf (partsOf c .regime)) m (partsOf c .numbers) ≡ c
-unfolding callAt attitudeAt rateAt absoluteAttitudeAt absoluteRateAt partsOf commandParts waypointParts
-call-back Prime m e = refl
-call-back (Attitude r dt c) m e = rw (regime-back r)
-call-back (Rate r dt c) m e = rw (regime-back r)
-call-back (Waypoint r dt c s cap) m e = waypoint-back r dt c s cap m e
-call-back (AbsoluteAttitude r dt c) m e = rw (regime-back r)
-call-back (Land r dt) m e = rw (regime-back r)
-call-back (AbsoluteRate r dt c) m e = rw (regime-back r)
+call_back : (c : Call) (m : ℕ) → m ≡ Map c → call_at (parts_of c).kind (regime_of (parts_of c).regime) m (parts_of c).numbers ≡ c
+unfolding call_at attitude_at rate_at absolute_attitude_at absolute_rate_at parts_of command_parts waypoint_parts
+call_back Prime m e = refl
+call_back (Attitude r dt c) m e = rw (regime_back r)
+call_back (Rate r dt c) m e = rw (regime_back r)
+call_back (Waypoint r dt c s cap) m e = waypoint_back r dt c s cap m e
+call_back (AbsoluteAttitude r dt c) m e = rw (regime_back r)
+call_back (Land r dt) m e = rw (regime_back r)
+call_back (AbsoluteRate r dt c) m e = rw (regime_back r)
 
 -- ---- where a record stands
 
 abbrev Body : Call → List ℕ
-Body c = bodyOf callFields (Map c) (valuesOf (partsOf c))
+Body c = body_of call_fields (Map c) (values_of (parts_of c))
 
-record-is : (c : Call) → callRecord c ≡ bytesOf 4 (Map c) ++ Body c
-unfolding callRecord
-record-is c = refl
+record_is : (c : Call) → call_record c ≡ bytes_of 4 (Map c) ++ Body c
+unfolding call_record
+record_is c = refl
 
-pub long : (c : Call) → length (callRecord c) ≡ 4 + sizeOf callFields (Map c)
+pub long : (c : Call) → length (call_record c) ≡ 4 + size_of call_fields (Map c)
 long c =
-    let size : length (Body c) ≡ sizeOf callFields (Map c) = body-long callFields (valuesOf (partsOf c)) (Map c) (values-length c) in
-    rw (record-is c) (length-append (bytesOf 4 (Map c)) (Body c) ∙ omega (arith, bytes-long 4 (Map c), size))
+    let size : length (Body c) ≡ size_of call_fields (Map c) = body_long call_fields (values_of (parts_of c)) (Map c) (values_length c) in
+    rw (record_is c) (length-append (bytes_of 4 (Map c)) (Body c) ∙ omega (arith, bytes_long 4 (Map c), size))
 
-values-back : (c : Call) (rest : List ℕ) → CallF32 c → valuesAt callFields (Map c) (Body c ++ rest) ≡ valuesOf (partsOf c)
-values-back c rest f = rw (map-is c) (fields-back callFields (Flags c) (valuesOf (partsOf c)) rest (flags-long c) (values-held c f))
+values_back : (c : Call) (rest : List ℕ) → CallF32 c → values_at call_fields (Map c) (Body c ++ rest) ≡ values_of (parts_of c)
+values_back c rest f = rw (map_is c) (fields_back call_fields (Flags c) (values_of (parts_of c)) rest (flags_long c) (values_held c f))
 
-values-are : (p : Parts) → valuesOf p ≡ p .kind ∷ p .regime ∷ bitsOf (p .numbers)
-unfolding valuesOf
-values-are p = refl
+values_are : (p : Parts) → values_of p ≡ p.kind ∷ p.regime ∷ bits_of p.numbers
+unfolding values_of
+values_are p = refl
 
-known : (c : Call) → unknown (partsOf c .kind) (partsOf c .regime) ≡ false
+known : (c : Call) → unknown (parts_of c).kind (parts_of c).regime ≡ false
 unfolding unknown
-known c = rw (le-ltb 6 (partsOf c .kind) (kind-le c), le-ltb 1 (partsOf c .regime) (regime-le c))
+known c = rw (le-ltb 6 (parts_of c).kind (kind_le c), le-ltb 1 (parts_of c).regime (regime_le c))
 
-pub stands-at : (s : List ℕ) (at : ℕ) (c : Call) (rest : List ℕ) → at ≤ length s → drop at s ≡ callRecord c ++ rest → CallF32 c
-    → readCall s at ≡ Read c (at + length (callRecord c))
-unfolding readCall
-stands-at s at c rest h e f =
+pub stands_at : (s : List ℕ) (at : ℕ) (c : Call) (rest : List ℕ) → at ≤ length s → drop at s ≡ call_record c ++ rest → CallF32 c
+    → read_call s at ≡ Read c (at + length (call_record c))
+unfolding read_call
+stands_at s at c rest h e f =
     let m = Map c in
-    let below : m < 256 ^ 4 = omega (arith, map-below c) in
-    let whole : drop at s ≡ bytesOf 4 m ++ (Body c ++ rest) = e ∙ rw (record-is c) (append-assoc (bytesOf 4 m) (Body c) rest) in
-    let map-at : numberAt 4 (drop at s) ≡ m = rw whole (number-back 4 m (Body c ++ rest) below) in
-    let after : drop (at + 4) s ≡ Body c ++ rest = sym (drop-drop 4 at s) ∙ rw whole (drop-bytes 4 m (Body c ++ rest)) in
-    let size : length s - at ≡ length (callRecord c) + length rest = sym (length-drop at s) ∙ ap length e ∙ length-append (callRecord c) rest in
-    let room : at + length (callRecord c) ≤ length s = omega arith in
+    let below : m < 256 ^ 4 = omega (arith, map_below c) in
+    let whole : drop at s ≡ bytes_of 4 m ++ (Body c ++ rest) = e ∙ rw (record_is c) (append_assoc (bytes_of 4 m) (Body c) rest) in
+    let map_at : number_at 4 (drop at s) ≡ m = rw whole (number_back 4 m (Body c ++ rest) below) in
+    let after : drop (at + 4) s ≡ Body c ++ rest = sym (drop-drop 4 at s) ∙ rw whole (drop_bytes 4 m (Body c ++ rest)) in
+    let size : length s - at ≡ length (call_record c) + length rest = sym (length-drop at s) ∙ ap length e ∙ length-append (call_record c) rest in
+    let room : at + length (call_record c) ≤ length s = omega arith in
     rw (
       le-leb (at + 4) (length s) (omega (arith, long c)),
-      map-at,
-      complete-is c,
+      map_at,
+      complete_is c,
       ← long c,
-      le-leb (at + length (callRecord c)) (length s) room,
+      le-leb (at + length (call_record c)) (length s) room,
       after,
-      values-back c rest f,
-      values-are (partsOf c),
+      values_back c rest f,
+      values_are (parts_of c),
       known c,
-      floats-back (partsOf c .numbers) f,
-      call-back c m refl,
+      floats_back (parts_of c).numbers f,
+      call_back c m refl,
     )
 
 -- ---- what was read
@@ -282,27 +282,27 @@ inverted : (a b d u : Bool) (v c : Call) (n next : ℕ)
     → cond (not a) (Refused 5) (cond (not b) (Refused 6) (cond (not d) (Refused 5) (cond u (Refused 7) (Read v n)))) ≡ Read c next
     → (b ≡ true) × (v ≡ c) × (n ≡ next)
 inverted true true true false v c n next e = (refl, cc, cc)
-inverted true true true true v c n next e = let z : _≡_ {A = ℕ} 0 1 = cc in absurd (omega arith)
-inverted true true false u v c n next e = let z : _≡_ {A = ℕ} 0 1 = cc in absurd (omega arith)
-inverted true false d u v c n next e = let z : _≡_ {A = ℕ} 0 1 = cc in absurd (omega arith)
-inverted false b d u v c n next e = let z : _≡_ {A = ℕ} 0 1 = cc in absurd (omega arith)
+inverted true true true true v c n next e = let z : ◌≡◌ {A = ℕ} 0 1 = cc in absurd (omega arith)
+inverted true true false u v c n next e = let z : ◌≡◌ {A = ℕ} 0 1 = cc in absurd (omega arith)
+inverted true false d u v c n next e = let z : ◌≡◌ {A = ℕ} 0 1 = cc in absurd (omega arith)
+inverted false b d u v c n next e = let z : ◌≡◌ {A = ℕ} 0 1 = cc in absurd (omega arith)
 
 -- what holds of the call of each kind
-of-each : (P : Call → Type 0) (kind : ℕ) (r : FlightRegime) (m : ℕ) (v : List Float)
-    → P Prime → P (Attitude r (spec.at v 2) (attitudeAt v)) → P (Rate r (spec.at v 2) (rateAt v))
-    → P (Waypoint r (spec.at v 2) (waypointAt m v) (stateAt m v) (optionOf (m / 2 ^ 21) (spec.at v 21)))
-    → P (AbsoluteAttitude r (spec.at v 2) (absoluteAttitudeAt v)) → P (Land r (spec.at v 2)) → P (AbsoluteRate r (spec.at v 2) (absoluteRateAt v))
-    → P (callAt kind r m v)
-unfolding callAt
-of-each P kind r m v p₀ p₁ p₂ p₃ p₄ p₅ p₆ = go (eqb kind 0) (eqb kind 1) (eqb kind 2) (eqb kind 3) (eqb kind 4) (eqb kind 5)
+of_each : (P : Call → Type 0) (kind : ℕ) (r : FlightRegime) (m : ℕ) (v : List Float)
+    → P Prime → P (Attitude r (spec.at v 2) (attitude_at v)) → P (Rate r (spec.at v 2) (rate_at v))
+    → P (Waypoint r (spec.at v 2) (waypoint_at m v) (state_at m v) (option_of (m / 2 ^ 21) (spec.at v 21)))
+    → P (AbsoluteAttitude r (spec.at v 2) (absolute_attitude_at v)) → P (Land r (spec.at v 2)) → P (AbsoluteRate r (spec.at v 2) (absolute_rate_at v))
+    → P (call_at kind r m v)
+unfolding call_at
+of_each P kind r m v p₀ p₁ p₂ p₃ p₄ p₅ p₆ = go (eqb kind 0) (eqb kind 1) (eqb kind 2) (eqb kind 3) (eqb kind 4) (eqb kind 5)
   where
     go : (a b c d e f : Bool) → P (cond a Prime
-        (cond b (Attitude r (spec.at v 2) (attitudeAt v))
-        (cond c (Rate r (spec.at v 2) (rateAt v))
-        (cond d (Waypoint r (spec.at v 2) (waypointAt m v) (stateAt m v) (optionOf (m / 2 ^ 21) (spec.at v 21)))
-        (cond e (AbsoluteAttitude r (spec.at v 2) (absoluteAttitudeAt v))
+        (cond b (Attitude r (spec.at v 2) (attitude_at v))
+        (cond c (Rate r (spec.at v 2) (rate_at v))
+        (cond d (Waypoint r (spec.at v 2) (waypoint_at m v) (state_at m v) (option_of (m / 2 ^ 21) (spec.at v 21)))
+        (cond e (AbsoluteAttitude r (spec.at v 2) (absolute_attitude_at v))
         (cond f (Land r (spec.at v 2))
-        (AbsoluteRate r (spec.at v 2) (absoluteRateAt v))))))))
+        (AbsoluteRate r (spec.at v 2) (absolute_rate_at v))))))))
     go true b c d e f = p₀
     go false true c d e f = p₁
     go false false true d e f = p₂
@@ -311,38 +311,38 @@ of-each P kind r m v p₀ p₁ p₂ p₃ p₄ p₅ p₆ = go (eqb kind 0) (eqb k
     go false false false false false true = p₅
     go false false false false false false = p₆
 
-zero-fits : T (fits binary32 spec.zero)
-zero-fits = ofBits-fits binary32 0
+zero_fits : T (fits binary32 spec.zero)
+zero_fits = of_bits-fits binary32 0
 
 -- an element of a list of f32s
-at-fits : (v : List Float) (k : ℕ) → AreF32 v → k < length v → T (fits binary32 (getD v k nan))
+at_fits : (v : List Float) (k : ℕ) → AreF32 v → k < length v → T (fits binary32 (get_or v k nan))
 unfolding AreF32
-at-fits [] k h l = absurd (omega arith)
-at-fits (x ∷ v) zero h l = h .0
-at-fits (x ∷ v) (suc k) h l = at-fits v k (h .1) (omega arith)
+at_fits [] k h l = absurd (omega arith)
+at_fits (x ∷ v) zero h l = h.0
+at_fits (x ∷ v) (suc k) h l = at_fits v k h.1 (omega arith)
 
-option-fits : (m : ℕ) (x : Float) → T (fits binary32 x) → T (fits binary32 (numberOr0 (optionOf m x)))
-unfolding optionOf
-option-fits m x h = go (stands m)
+option_fits : (m : ℕ) (x : Float) → T (fits binary32 x) → T (fits binary32 (number_or0 (option_of m x)))
+unfolding option_of
+option_fits m x h = go (stands m)
   where
-    go : (b : Bool) → T (fits binary32 (numberOr0 (cond b (number.Some x) number.None)))
+    go : (b : Bool) → T (fits binary32 (number_or0 (cond b (number.Some x) number.None)))
     go true = h
-    go false = zero-fits
+    go false = zero_fits
 
-legs-fit : (m : ℕ) (x y : Float) → T (fits binary32 x) → T (fits binary32 y) → T (fits binary32 (legNorth (legOf m x y))) × T (fits binary32 (legEast (legOf m x y)))
-unfolding legOf
-legs-fit m x y h k = go (stands m)
+legs_fit : (m : ℕ) (x y : Float) → T (fits binary32 x) → T (fits binary32 y) → T (fits binary32 (leg_north (leg_of m x y))) × T (fits binary32 (leg_east (leg_of m x y)))
+unfolding leg_of
+legs_fit m x y h k = go (stands m)
   where
     go : (b : Bool)
-        → T (fits binary32 (legNorth (cond b (leg.Some (record { x = x; y = y })) leg.None)))
-        × T (fits binary32 (legEast (cond b (leg.Some (record { x = x; y = y })) leg.None)))
+        → T (fits binary32 (leg_north (cond b (leg.Some (record { x = x; y = y })) leg.None)))
+        × T (fits binary32 (leg_east (cond b (leg.Some (record { x = x; y = y })) leg.None)))
     go true = (h, k)
-    go false = (zero-fits, zero-fits)
+    go false = (zero_fits, zero_fits)
 
-command-fits : (kind g : ℕ) (dt a b c d : Float) → T (fits binary32 dt) → T (fits binary32 a) → T (fits binary32 b) → T (fits binary32 c) → T (fits binary32 d)
-    → AreF32 (commandParts kind g dt a b c d .numbers)
-unfolding AreF32 commandParts
-command-fits kind g dt a b c d f₀ f₁ f₂ f₃ f₄ = (
+command_fits : (kind g : ℕ) (dt a b c d : Float) → T (fits binary32 dt) → T (fits binary32 a) → T (fits binary32 b) → T (fits binary32 c) → T (fits binary32 d)
+    → AreF32 (command_parts kind g dt a b c d).numbers
+unfolding AreF32 command_parts
+command_fits kind g dt a b c d f₀ f₁ f₂ f₃ f₄ = (
   f₀,
   (
     f₁,
@@ -353,18 +353,18 @@ command-fits kind g dt a b c d f₀ f₁ f₂ f₃ f₄ = (
         (
           f₄,
           (
-            zero-fits,
+            zero_fits,
             (
-              zero-fits,
+              zero_fits,
               (
-                zero-fits,
+                zero_fits,
                 (
-                  zero-fits,
+                  zero_fits,
                   (
-                    zero-fits,
+                    zero_fits,
                     (
-                      zero-fits,
-                      (zero-fits, (zero-fits, (zero-fits, (zero-fits, (zero-fits, (zero-fits, (zero-fits, (zero-fits, (zero-fits, tt))))))))),
+                      zero_fits,
+                      (zero_fits, (zero_fits, (zero_fits, (zero_fits, (zero_fits, (zero_fits, (zero_fits, (zero_fits, (zero_fits, tt))))))))),
                     ),
                   ),
                 ),
@@ -378,53 +378,53 @@ command-fits kind g dt a b c d f₀ f₁ f₂ f₃ f₄ = (
 )
 
 module _ (m : ℕ) (v : List Float) (h : AreF32 v) (l : length v ≡ 20) where
-  fit-at : (k : ℕ) → k < 20 → T (fits binary32 (getD v k nan))
-  fit-at k i = at-fits v k h (omega arith)
+  fit_at : (k : ℕ) → k < 20 → T (fits binary32 (get_or v k nan))
+  fit_at k i = at_fits v k h (omega arith)
 
-  leg-fits : T (fits binary32 (legNorth (legOf (m / 2 ^ 9) (spec.at v 9) (spec.at v 10)))) × T (fits binary32 (legEast (legOf (m / 2 ^ 9) (spec.at v 9) (spec.at v 10))))
-  leg-fits = legs-fit (m / 2 ^ 9) (spec.at v 9) (spec.at v 10) (fit-at 7 (lit< tt)) (fit-at 8 (lit< tt))
+  leg_fits : T (fits binary32 (leg_north (leg_of (m / 2 ^ 9) (spec.at v 9) (spec.at v 10)))) × T (fits binary32 (leg_east (leg_of (m / 2 ^ 9) (spec.at v 9) (spec.at v 10))))
+  leg_fits = legs_fit (m / 2 ^ 9) (spec.at v 9) (spec.at v 10) (fit_at 7 (lit< tt)) (fit_at 8 (lit< tt))
 
-  waypoint-fits : (g : ℕ) → AreF32 (waypointParts g (spec.at v 2) (waypointAt m v) (stateAt m v) (optionOf (m / 2 ^ 21) (spec.at v 21)) .numbers)
-  unfolding AreF32 waypointParts waypointAt stateAt
-  waypoint-fits g = (
-    fit-at 0 (lit< tt),
+  waypoint_fits : (g : ℕ) → AreF32 (waypoint_parts g (spec.at v 2) (waypoint_at m v) (state_at m v) (option_of (m / 2 ^ 21) (spec.at v 21))).numbers
+  unfolding AreF32 waypoint_parts waypoint_at state_at
+  waypoint_fits g = (
+    fit_at 0 (lit< tt),
     (
-      zero-fits,
+      zero_fits,
       (
-        zero-fits,
+        zero_fits,
         (
-          zero-fits,
+          zero_fits,
           (
-            zero-fits,
+            zero_fits,
             (
-              fit-at 5 (lit< tt),
+              fit_at 5 (lit< tt),
               (
-                fit-at 6 (lit< tt),
+                fit_at 6 (lit< tt),
                 (
-                  leg-fits .0,
+                  leg_fits.0,
                   (
-                    leg-fits .1,
+                    leg_fits.1,
                     (
-                      fit-at 9 (lit< tt),
+                      fit_at 9 (lit< tt),
                       (
-                        fit-at 10 (lit< tt),
+                        fit_at 10 (lit< tt),
                         (
-                          fit-at 11 (lit< tt),
+                          fit_at 11 (lit< tt),
                           (
-                            fit-at 12 (lit< tt),
+                            fit_at 12 (lit< tt),
                             (
-                              fit-at 13 (lit< tt),
+                              fit_at 13 (lit< tt),
                               (
-                                fit-at 14 (lit< tt),
+                                fit_at 14 (lit< tt),
                                 (
-                                  fit-at 15 (lit< tt),
+                                  fit_at 15 (lit< tt),
                                   (
-                                    fit-at 16 (lit< tt),
+                                    fit_at 16 (lit< tt),
                                     (
-                                      fit-at 17 (lit< tt),
+                                      fit_at 17 (lit< tt),
                                       (
-                                        option-fits (m / 2 ^ 20) (spec.at v 20) (fit-at 18 (lit< tt)),
-                                        (option-fits (m / 2 ^ 21) (spec.at v 21) (fit-at 19 (lit< tt)), tt),
+                                        option_fits (m / 2 ^ 20) (spec.at v 20) (fit_at 18 (lit< tt)),
+                                        (option_fits (m / 2 ^ 21) (spec.at v 21) (fit_at 19 (lit< tt)), tt),
                                       ),
                                     ),
                                   ),
@@ -445,77 +445,77 @@ module _ (m : ℕ) (v : List Float) (h : AreF32 v) (l : length v ≡ 20) where
     ),
   )
 
-  call-fits : (kind : ℕ) (r : FlightRegime) → CallF32 (callAt kind r m v)
-  unfolding partsOf attitudeAt rateAt absoluteAttitudeAt absoluteRateAt
-  call-fits kind r =
-      let t = fit-at 0 (lit< tt) in
-      let a = fit-at 1 (lit< tt) in
-      let b = fit-at 2 (lit< tt) in
-      let c = fit-at 3 (lit< tt) in
-      let d = fit-at 4 (lit< tt) in
-      let z = zero-fits in
-      of-each CallF32 kind r m v
-      (command-fits 0 1 _ _ _ _ _ z z z z z)
-      (command-fits 1 (regimeByte r) _ _ _ _ _ t a b c z)
-      (command-fits 2 (regimeByte r) _ _ _ _ _ t a b c d)
-      (waypoint-fits (regimeByte r))
-      (command-fits 4 (regimeByte r) _ _ _ _ _ t a b c z)
-      (command-fits 5 (regimeByte r) _ _ _ _ _ t z z z z)
-      (command-fits 6 (regimeByte r) _ _ _ _ _ t a b c d)
+  call_fits : (kind : ℕ) (r : FlightRegime) → CallF32 (call_at kind r m v)
+  unfolding parts_of attitude_at rate_at absolute_attitude_at absolute_rate_at
+  call_fits kind r =
+      let t = fit_at 0 (lit< tt) in
+      let a = fit_at 1 (lit< tt) in
+      let b = fit_at 2 (lit< tt) in
+      let c = fit_at 3 (lit< tt) in
+      let d = fit_at 4 (lit< tt) in
+      let z = zero_fits in
+      of_each CallF32 kind r m v
+      (command_fits 0 1 _ _ _ _ _ z z z z z)
+      (command_fits 1 (regime_byte r) _ _ _ _ _ t a b c z)
+      (command_fits 2 (regime_byte r) _ _ _ _ _ t a b c d)
+      (waypoint_fits (regime_byte r))
+      (command_fits 4 (regime_byte r) _ _ _ _ _ t a b c z)
+      (command_fits 5 (regime_byte r) _ _ _ _ _ t z z z z)
+      (command_fits 6 (regime_byte r) _ _ _ _ _ t a b c d)
 
 -- ---- a call that was read is written with no more fields than it had
 
 -- +0 that need not be written is not
-left : {b : Bool} → b ≡ false → isWritten 0 (toBits binary32 spec.zero) 0 ≡ false
-left e = zero-out
+left : {b : Bool} → b ≡ false → is_written 0 (to_bits binary32 spec.zero) 0 ≡ false
+left e = zero_out
 
-option-left : (m : ℕ) (x : Float) → stands m ≡ false → isWritten (hasNumber (optionOf m x)) (toBits binary32 (numberOr0 (optionOf m x))) 0 ≡ false
-unfolding optionOf
-option-left m x e = rw e zero-out
+option_left : (m : ℕ) (x : Float) → stands m ≡ false → is_written (has_number (option_of m x)) (to_bits binary32 (number_or0 (option_of m x))) 0 ≡ false
+unfolding option_of
+option_left m x e = rw e zero_out
 
-legs-left : (m : ℕ) (x y : Float) → stands m ≡ false
-    → (isWritten (hasLeg (legOf m x y)) (toBits binary32 (legNorth (legOf m x y))) 0 ≡ false)
-    × (isWritten (hasLeg (legOf m x y)) (toBits binary32 (legEast (legOf m x y))) 0 ≡ false)
-unfolding legOf
-legs-left m x y e = (rw e zero-out, rw e zero-out)
+legs_left : (m : ℕ) (x y : Float) → stands m ≡ false
+    → (is_written (has_leg (leg_of m x y)) (to_bits binary32 (leg_north (leg_of m x y))) 0 ≡ false)
+    × (is_written (has_leg (leg_of m x y)) (to_bits binary32 (leg_east (leg_of m x y))) 0 ≡ false)
+unfolding leg_of
+legs_left m x y e = (rw e zero_out, rw e zero_out)
 
-halved-is : (k n : ℕ) → halved k n ≡ n / 2 ^ k
-halved-is zero n = omega arith
-halved-is (suc k) n =
-    let two : 2 ^ suc k ≡ 2 * 2 ^ k = pow-suc 2 k ∙ mul-comm (2 ^ k) 2 in
-    halved-is k (n / 2) ∙ rw (two, ← div-div-eq-div-mul n 2 (2 ^ k))
+halved_is : (k n : ℕ) → halved k n ≡ n / 2 ^ k
+halved_is zero n = omega arith
+halved_is (suc k) n =
+    let two : 2 ^ suc k ≡ 2 * 2 ^ k = pow-suc 2 k ∙ mul_comm (2 ^ k) 2 in
+    halved_is k (n / 2) ∙ rw (two, ← div-div-eq-div-mul n 2 (2 ^ k))
 
 -- a field of a map of numbers that begins at bit 2
-third-on : (m k : ℕ) → m / 2 / 2 / 2 ^ k ≡ m / 2 ^ (2 + k)
-third-on m k =
+third_on : (m k : ℕ) → m / 2 / 2 / 2 ^ k ≡ m / 2 ^ (2 + k)
+third_on m k =
     let four : 2 ^ (2 + k) ≡ 2 * (2 * 2 ^ k) = pow-add 2 2 k ∙ omega arith in
     rw (four, ← div-div-eq-div-mul m 2 (2 * 2 ^ k), ← div-div-eq-div-mul (m / 2) 2 (2 ^ k))
 
 -- the numbers v were read with the map m from the bytes s
-module _ (m : ℕ) (s : List ℕ) (v : List Float) (ev : v ≡ floatsOf (valuesAt Numbers (m / 2 / 2) s)) where
-  read-long : length (valuesAt Numbers (m / 2 / 2) s) ≡ 20
-  unfolding numberFields
-  read-long = values-long Numbers (m / 2 / 2) s
+module _ (m : ℕ) (s : List ℕ) (v : List Float) (ev : v ≡ floats_of (values_at Numbers (m / 2 / 2) s)) where
+  read_long : length (values_at Numbers (m / 2 / 2) s) ≡ 20
+  unfolding number_fields
+  read_long = values_long Numbers (m / 2 / 2) s
 
   -- a plain number that does not stand is +0
-  read-zero : (k : ℕ) → k < 20 → stands (halved k (m / 2 / 2)) ≡ false → getD v k nan ≡ spec.zero
-  unfolding floatsOf
-  read-zero k h e =
-      let none : getD (valuesAt Numbers (m / 2 / 2) s) k 0 ≡ 0 = value-missing k (replicate 20 0) (m / 2 / 2) s e ∙ getD-replicate 20 k 0 0 h in
-      rw ev (getD-mapped (ofBits binary32) (valuesAt Numbers (m / 2 / 2) s) k 0 nan (omega (arith, read-long)) ∙ ap (ofBits binary32) none)
+  read_zero : (k : ℕ) → k < 20 → stands (halved k (m / 2 / 2)) ≡ false → get_or v k nan ≡ spec.zero
+  unfolding floats_of
+  read_zero k h e =
+      let none : get_or (values_at Numbers (m / 2 / 2) s) k 0 ≡ 0 = value_missing k (replicate 20 0) (m / 2 / 2) s e ∙ get_or-replicate 20 k 0 0 h in
+      rw ev (get_d_mapped (of_bits binary32) (values_at Numbers (m / 2 / 2) s) k 0 nan (omega (arith, read_long)) ∙ ap (of_bits binary32) none)
 
-  used : (k : ℕ) → k < 20 → stands (halved k (m / 2 / 2)) ≡ false → isWritten 0 (toBits binary32 (getD v k nan)) 0 ≡ false
-  used k h e = rw (read-zero k h e) zero-out
+  used : (k : ℕ) → k < 20 → stands (halved k (m / 2 / 2)) ≡ false → is_written 0 (to_bits binary32 (get_or v k nan)) 0 ≡ false
+  used k h e = rw (read_zero k h e) zero_out
 
-  command-within : (kind g : ℕ) (dt a b c d : Float)
-      → (stands (halved 0 (m / 2 / 2)) ≡ false → isWritten 0 (toBits binary32 dt) 0 ≡ false)
-      → (stands (halved 1 (m / 2 / 2)) ≡ false → isWritten 0 (toBits binary32 a) 0 ≡ false)
-      → (stands (halved 2 (m / 2 / 2)) ≡ false → isWritten 0 (toBits binary32 b) 0 ≡ false)
-      → (stands (halved 3 (m / 2 / 2)) ≡ false → isWritten 0 (toBits binary32 c) 0 ≡ false)
-      → (stands (halved 4 (m / 2 / 2)) ≡ false → isWritten 0 (toBits binary32 d) 0 ≡ false)
-      → Within Numbers (commandParts kind g dt a b c d .keeps) (bitsOf (commandParts kind g dt a b c d .numbers)) (m / 2 / 2)
-  unfolding Within numberFields bitsOf commandParts
-  command-within kind g dt a b c d e₀ e₁ e₂ e₃ e₄ = (
+  command_within : (kind g : ℕ) (dt a b c d : Float)
+      → (stands (halved 0 (m / 2 / 2)) ≡ false → is_written 0 (to_bits binary32 dt) 0 ≡ false)
+      → (stands (halved 1 (m / 2 / 2)) ≡ false → is_written 0 (to_bits binary32 a) 0 ≡ false)
+      → (stands (halved 2 (m / 2 / 2)) ≡ false → is_written 0 (to_bits binary32 b) 0 ≡ false)
+      → (stands (halved 3 (m / 2 / 2)) ≡ false → is_written 0 (to_bits binary32 c) 0 ≡ false)
+      → (stands (halved 4 (m / 2 / 2)) ≡ false → is_written 0 (to_bits binary32 d) 0 ≡ false)
+      → Within Numbers (command_parts kind g dt a b c d).keeps (bits_of (command_parts kind g dt a b c d).numbers) (m / 2 / 2)
+  unfolding Within number_fields bits_of command_parts
+  command_within kind g dt a b c d e₀ e₁ e₂ e₃ e₄ = (
     e₀,
     (
       e₁,
@@ -525,35 +525,35 @@ module _ (m : ℕ) (s : List ℕ) (v : List Float) (ev : v ≡ floatsOf (valuesA
 
   -- the leg is whole, or none
   module _ (q : m / 2 ^ 9 % 2 ≡ m / 2 ^ 10 % 2) where
-    at-bit : (k n : ℕ) → 2 + k ≡ n → stands (halved k (m / 2 / 2)) ≡ stands (m / 2 ^ n)
-    at-bit k n e = rw (halved-is k (m / 2 / 2), third-on m k, e)
+    at_bit : (k n : ℕ) → 2 + k ≡ n → stands (halved k (m / 2 / 2)) ≡ stands (m / 2 ^ n)
+    at_bit k n e = rw (halved_is k (m / 2 / 2), third_on m k, e)
 
-    leg-left :
+    leg_left :
         (stands (halved 7 (m / 2 / 2)) ≡ false
-        → isWritten (hasLeg (legOf (m / 2 ^ 9) (spec.at v 9) (spec.at v 10)))
-        (toBits binary32 (legNorth (legOf (m / 2 ^ 9) (spec.at v 9) (spec.at v 10)))) 0 ≡ false)
+        → is_written (has_leg (leg_of (m / 2 ^ 9) (spec.at v 9) (spec.at v 10)))
+        (to_bits binary32 (leg_north (leg_of (m / 2 ^ 9) (spec.at v 9) (spec.at v 10)))) 0 ≡ false)
         × (stands (halved 8 (m / 2 / 2)) ≡ false
-        → isWritten (hasLeg (legOf (m / 2 ^ 9) (spec.at v 9) (spec.at v 10)))
-        (toBits binary32 (legEast (legOf (m / 2 ^ 9) (spec.at v 9) (spec.at v 10)))) 0 ≡ false)
-    leg-left = (
-      λ e. legs-left (m / 2 ^ 9) (spec.at v 9) (spec.at v 10) (sym (at-bit 7 9 refl) ∙ e) .0,
-      λ e. legs-left (m / 2 ^ 9) (spec.at v 9) (spec.at v 10) (ap (λ (x : ℕ). eqb x 1) q ∙ sym (at-bit 8 10 refl) ∙ e) .1,
+        → is_written (has_leg (leg_of (m / 2 ^ 9) (spec.at v 9) (spec.at v 10)))
+        (to_bits binary32 (leg_east (leg_of (m / 2 ^ 9) (spec.at v 9) (spec.at v 10)))) 0 ≡ false)
+    leg_left = (
+      λ e. (legs_left (m / 2 ^ 9) (spec.at v 9) (spec.at v 10) (sym (at_bit 7 9 refl) ∙ e)).0,
+      λ e. (legs_left (m / 2 ^ 9) (spec.at v 9) (spec.at v 10) (ap (λ (x : ℕ). eqb x 1) q ∙ sym (at_bit 8 10 refl) ∙ e)).1,
     )
 
-    airspeed-left : stands (halved 18 (m / 2 / 2)) ≡ false
-        → isWritten (hasNumber (optionOf (m / 2 ^ 20) (spec.at v 20))) (toBits binary32 (numberOr0 (optionOf (m / 2 ^ 20) (spec.at v 20)))) 0 ≡ false
-    airspeed-left e = option-left (m / 2 ^ 20) (spec.at v 20) (sym (at-bit 18 20 refl) ∙ e)
+    airspeed_left : stands (halved 18 (m / 2 / 2)) ≡ false
+        → is_written (has_number (option_of (m / 2 ^ 20) (spec.at v 20))) (to_bits binary32 (number_or0 (option_of (m / 2 ^ 20) (spec.at v 20)))) 0 ≡ false
+    airspeed_left e = option_left (m / 2 ^ 20) (spec.at v 20) (sym (at_bit 18 20 refl) ∙ e)
 
-    cap-left : stands (halved 19 (m / 2 / 2)) ≡ false
-        → isWritten (hasNumber (optionOf (m / 2 ^ 21) (spec.at v 21))) (toBits binary32 (numberOr0 (optionOf (m / 2 ^ 21) (spec.at v 21)))) 0 ≡ false
-    cap-left e = option-left (m / 2 ^ 21) (spec.at v 21) (sym (at-bit 19 21 refl) ∙ e)
+    cap_left : stands (halved 19 (m / 2 / 2)) ≡ false
+        → is_written (has_number (option_of (m / 2 ^ 21) (spec.at v 21))) (to_bits binary32 (number_or0 (option_of (m / 2 ^ 21) (spec.at v 21)))) 0 ≡ false
+    cap_left e = option_left (m / 2 ^ 21) (spec.at v 21) (sym (at_bit 19 21 refl) ∙ e)
 
-    waypoint-within : (g : ℕ)
+    waypoint_within : (g : ℕ)
         → let p =
-        waypointParts g (spec.at v 2) (waypointAt m v) (stateAt m v) (optionOf (m / 2 ^ 21) (spec.at v 21)) in Within Numbers
-        (p .keeps) (bitsOf (p .numbers)) (m / 2 / 2)
-    unfolding Within numberFields bitsOf waypointParts waypointAt stateAt
-    waypoint-within g = (
+        waypoint_parts g (spec.at v 2) (waypoint_at m v) (state_at m v) (option_of (m / 2 ^ 21) (spec.at v 21)) in Within Numbers
+        p.keeps (bits_of p.numbers) (m / 2 / 2)
+    unfolding Within number_fields bits_of waypoint_parts waypoint_at state_at
+    waypoint_within g = (
       used 0 (lit< tt),
       (
         left,
@@ -568,9 +568,9 @@ module _ (m : ℕ) (s : List ℕ) (v : List Float) (ev : v ≡ floatsOf (valuesA
                 (
                   used 6 (lit< tt),
                   (
-                    leg-left .0,
+                    leg_left.0,
                     (
-                      leg-left .1,
+                      leg_left.1,
                       (
                         used 9 (lit< tt),
                         (
@@ -583,7 +583,7 @@ module _ (m : ℕ) (s : List ℕ) (v : List Float) (ev : v ≡ floatsOf (valuesA
                                 used 13 (lit< tt),
                                 (
                                   used 14 (lit< tt),
-                                  (used 15 (lit< tt), (used 16 (lit< tt), (used 17 (lit< tt), (airspeed-left, (cap-left, tt))))),
+                                  (used 15 (lit< tt), (used 16 (lit< tt), (used 17 (lit< tt), (airspeed_left, (cap_left, tt))))),
                                 ),
                               ),
                             ),
@@ -600,35 +600,35 @@ module _ (m : ℕ) (s : List ℕ) (v : List Float) (ev : v ≡ floatsOf (valuesA
       ),
     )
 
-    numbers-within : (kind : ℕ) (r : FlightRegime) → Within Numbers (partsOf (callAt kind r m v) .keeps) (bitsOf (partsOf (callAt kind r m v) .numbers)) (m / 2 / 2)
-    unfolding partsOf attitudeAt rateAt absoluteAttitudeAt absoluteRateAt
-    numbers-within kind r =
+    numbers_within : (kind : ℕ) (r : FlightRegime) → Within Numbers (parts_of (call_at kind r m v)).keeps (bits_of (parts_of (call_at kind r m v)).numbers) (m / 2 / 2)
+    unfolding parts_of attitude_at rate_at absolute_attitude_at absolute_rate_at
+    numbers_within kind r =
         let t = used 0 (lit< tt) in
         let a = used 1 (lit< tt) in
         let b = used 2 (lit< tt) in
         let c = used 3 (lit< tt) in
         let d = used 4 (lit< tt) in
-        of-each (λ (k : Call). Within Numbers (partsOf k .keeps) (bitsOf (partsOf k .numbers)) (m / 2 / 2)) kind r m v
-        (command-within 0 1 _ _ _ _ _ left left left left left)
-        (command-within 1 (regimeByte r) _ _ _ _ _ t a b c left)
-        (command-within 2 (regimeByte r) _ _ _ _ _ t a b c d)
-        (waypoint-within (regimeByte r))
-        (command-within 4 (regimeByte r) _ _ _ _ _ t a b c left)
-        (command-within 5 (regimeByte r) _ _ _ _ _ t left left left left)
-        (command-within 6 (regimeByte r) _ _ _ _ _ t a b c d)
+        of_each (λ (k : Call). Within Numbers (parts_of k).keeps (bits_of (parts_of k).numbers) (m / 2 / 2)) kind r m v
+        (command_within 0 1 _ _ _ _ _ left left left left left)
+        (command_within 1 (regime_byte r) _ _ _ _ _ t a b c left)
+        (command_within 2 (regime_byte r) _ _ _ _ _ t a b c d)
+        (waypoint_within (regime_byte r))
+        (command_within 4 (regime_byte r) _ _ _ _ _ t a b c left)
+        (command_within 5 (regime_byte r) _ _ _ _ _ t left left left left)
+        (command_within 6 (regime_byte r) _ _ _ _ _ t a b c d)
 
     -- plane is left out
-    regime-within : (kind : ℕ) → isWritten 0 (partsOf (callAt kind Plane m v) .regime) 1 ≡ false
-    unfolding partsOf commandParts waypointParts
-    regime-within kind = of-each (λ (k : Call). isWritten 0 (partsOf k .regime) 1 ≡ false) kind Plane m v refl refl refl refl refl refl refl
+    regime_within : (kind : ℕ) → is_written 0 (parts_of (call_at kind Plane m v)).regime 1 ≡ false
+    unfolding parts_of command_parts waypoint_parts
+    regime_within kind = of_each (λ (k : Call). is_written 0 (parts_of k).regime 1 ≡ false) kind Plane m v refl refl refl refl refl refl refl
 
     within : (kind g : ℕ) → stands m ≡ true → (stands (m / 2) ≡ false → g ≡ 1)
-        → let c = callAt kind (regimeOf g) m v in Within callFields (Flags c) (valuesOf (partsOf c)) m
-    unfolding Within valuesOf
+        → let c = call_at kind (regime_of g) m v in Within call_fields (Flags c) (values_of (parts_of c)) m
+    unfolding Within values_of
     within kind g k e =
-        rw fields-are (
+        rw fields_are (
           λ (x : stands m ≡ false). absurd (subst T (sym k ∙ x) tt),
-          (λ (x : stands (m / 2) ≡ false). rw (e x, plane-is) (regime-within kind), numbers-within kind (regimeOf g)),
+          (λ (x : stands (m / 2) ≡ false). rw (e x, plane_is) (regime_within kind), numbers_within kind (regime_of g)),
         )
 
 -- ---- the laws
@@ -639,79 +639,79 @@ both true true false e = absurd (subst T (sym e) tt)
 both true false c e = absurd (subst T (sym e) tt)
 both false b c e = absurd (subst T (sym e) tt)
 
-complete-gives : (m : ℕ) → complete m ≡ true → (stands m ≡ true) × (m / 2 ^ 9 % 2 ≡ m / 2 ^ 10 % 2)
+complete_gives : (m : ℕ) → complete m ≡ true → (stands m ≡ true) × (m / 2 ^ 9 % 2 ≡ m / 2 ^ 10 % 2)
 unfolding complete
-complete-gives m e = let r = both (named callFields m) (stands m) (eqb (m / 2 ^ 9 % 2) (m / 2 ^ 10 % 2)) e in (r .0, eqb-true _ _ (r .1))
+complete_gives m e = let r = both (named call_fields m) (stands m) (eqb (m / 2 ^ 9 % 2) (m / 2 ^ 10 % 2)) e in (r.0, eqb-true _ _ r.1)
 
 module _ (s : List ℕ) (at : ℕ) where
   -- the map that was read, the two bytes and the numbers
-  abbrev mapAt : ℕ
-  mapAt = numberAt 4 (drop at s)
+  abbrev map_number : ℕ
+  map_number = number_at 4 (drop at s)
 
   abbrev Kind : ByteRead
-  Kind = byteAt s (at + 4) mapAt 0
+  Kind = byte_at s (at + 4) map_number 0
 
   abbrev Regime : ByteRead
-  Regime = byteAt s (Kind .rest .at) (mapAt / 2) 1
+  Regime = byte_at s Kind.rest.at (map_number / 2) 1
 
   abbrev Floats : List Float
-  Floats = floatsOf (valuesAt Numbers (mapAt / 2 / 2) (drop (Regime .rest .at) s))
+  Floats = floats_of (values_at Numbers (map_number / 2 / 2) (drop Regime.rest.at s))
 
-  values-read : valuesAt callFields mapAt (drop (at + 4) s) ≡ Kind .value ∷ Regime .value ∷ valuesAt Numbers (mapAt / 2 / 2) (drop (Regime .rest .at) s)
-  values-read = rw (fields-are, values-byte s (at + 4) mapAt 0 (record { bytes = 1; missing = 1 } ∷ Numbers), values-byte s (Kind .rest .at) (mapAt / 2) 1 Numbers)
+  values_read : values_at call_fields map_number (drop (at + 4) s) ≡ Kind.value ∷ Regime.value ∷ values_at Numbers (map_number / 2 / 2) (drop Regime.rest.at s)
+  values_read = rw (fields_are, values_byte s (at + 4) map_number 0 (record { bytes = 1; missing = 1 } ∷ Numbers), values_byte s Kind.rest.at (map_number / 2) 1 Numbers)
 
-  regime-read : stands (mapAt / 2) ≡ false → Regime .value ≡ 1
-  regime-read e = ap (λ (b : ByteRead). b .value) (sym (byte-missing s (Kind .rest .at) (mapAt / 2) 1 e))
+  regime_read : stands (map_number / 2) ≡ false → Regime.value ≡ 1
+  regime_read e = ap (λ (b : ByteRead). b.value) (sym (byte_missing s Kind.rest.at (map_number / 2) 1 e))
 
-  floats-long : length Floats ≡ 20
-  unfolding numberFields
-  floats-long = floats-length (valuesAt Numbers (mapAt / 2 / 2) (drop (Regime .rest .at) s)) ∙ values-long Numbers (mapAt / 2 / 2) (drop (Regime .rest .at) s)
+  floats_long : length Floats ≡ 20
+  unfolding number_fields
+  floats_long = floats_length (values_at Numbers (map_number / 2 / 2) (drop Regime.rest.at s)) ∙ values_long Numbers (map_number / 2 / 2) (drop Regime.rest.at s)
 
-  module _ (c : Call) (next : ℕ) (e : readCall s at ≡ Read c next) where
-    answered : (complete mapAt ≡ true) × (callAt (Kind .value) (regimeOf (Regime .value)) mapAt Floats ≡ c) × (at + (4 + sizeOf callFields mapAt) ≡ next)
-    unfolding readCall
+  module _ (c : Call) (next : ℕ) (e : read_call s at ≡ Read c next) where
+    answered : (complete map_number ≡ true) × (call_at Kind.value (regime_of Regime.value) map_number Floats ≡ c) × (at + (4 + size_of call_fields map_number) ≡ next)
+    unfolding read_call
     answered =
-        inverted (hasBytes s at 4) (complete mapAt) (hasBytes s at (4 + sizeOf callFields mapAt)) (unknown (Kind .value) (Regime .value)) _ c _ next
-        (rw values-read at e)
+        inverted (has_bytes s at 4) (complete map_number) (has_bytes s at (4 + size_of call_fields map_number)) (unknown Kind.value Regime.value) _ c _ next
+        (rw values_read at e)
 
     pub held : CallF32 c
     held =
-        subst CallF32 (answered .1)
-        (call-fits mapAt Floats
-        (floats-are (valuesAt Numbers (mapAt / 2 / 2) (drop (Regime .rest .at) s))) floats-long (Kind .value) (regimeOf (Regime .value)))
+        subst CallF32 answered.1
+        (call_fits map_number Floats
+        (floats_are (values_at Numbers (map_number / 2 / 2) (drop Regime.rest.at s))) floats_long Kind.value (regime_of Regime.value))
 
-    no-longer : at + length (callRecord c) ≤ next
-    no-longer =
-        let g = complete-gives mapAt (answered .0) in
-        let w = within mapAt (drop (Regime .rest .at) s) Floats refl (g .1) (Kind .value) (Regime .value) (g .0) regime-read in
-        let read = callAt (Kind .value) (regimeOf (Regime .value)) mapAt Floats in
-        let size : sizeOf callFields (Map read) ≤ sizeOf callFields mapAt = rw (map-is read) (size-within callFields (Flags read) (valuesOf (partsOf read)) mapAt w) in
-        let size-c : sizeOf callFields (Map c) ≤ sizeOf callFields mapAt = subst (λ (k : Call). sizeOf callFields (Map k) ≤ sizeOf callFields mapAt) (answered .1) size in
-        omega (arith, long c, size-c, answered .2)
+    no_longer : at + length (call_record c) ≤ next
+    no_longer =
+        let g = complete_gives map_number answered.0 in
+        let w = within map_number (drop Regime.rest.at s) Floats refl g.1 Kind.value Regime.value g.0 regime_read in
+        let read = call_at Kind.value (regime_of Regime.value) map_number Floats in
+        let size : size_of call_fields (Map read) ≤ size_of call_fields map_number = rw (map_is read) (size_within call_fields (Flags read) (values_of (parts_of read)) map_number w) in
+        let size_c : size_of call_fields (Map c) ≤ size_of call_fields map_number = subst (λ (k : Call). size_of call_fields (Map k) ≤ size_of call_fields map_number) answered.1 size in
+        omega (arith, long c, size_c, answered.2)
 
 one : (v w : Call) (a b : ℕ) → Read v a ≡ Read w b → v ≡ w
 one v w a b e = cc
 
-pub call-laws : CallLaws
-call-laws = laws CallF32 callRecord readCall Read stands-at held no-longer one
+pub call_laws : CallLaws
+call_laws = laws CallF32 call_record read_call Read stands_at held no_longer one
 
 -- ---- the greatest length
 
-size-le : (m : ℕ) → sizeOf callFields m ≤ 82
-size-le m = rw (size-is m) (omega (arith, ones-le 20 (m / 4)))
+size-le : (m : ℕ) → size_of call_fields m ≤ 82
+size-le m = rw (size_is m) (omega (arith, ones_le 20 (m / 4)))
 
 -- a prime in whose map every named bit stands
 longest : List ℕ
 longest = 255 ∷ 255 ∷ 63 ∷ replicate 83 0
 
-longest-read : readCall longest 0 ≡ Read Prime 86
-unfolding longest readCall complete unknown callFields numberFields sizeOf valuesAt numberAt regimeOf callAt floatsOf
-longest-read = refl
+longest_read : read_call longest 0 ≡ Read Prime 86
+unfolding longest read_call complete unknown call_fields number_fields size_of values_at number_at regime_of call_at floats_of
+longest_read = refl
 
-pub call-longest : CallLongest
-call-longest =
+pub call_longest : CallLongest
+call_longest =
     record {
       written = λ c. omega (arith, long c, size-le (Map c));
-      stepped = λ s at c next e. omega (arith, answered s at c next e .2, size-le (mapAt s at));
-      reached = (longest, Prime, longest-read);
+      stepped = λ s at c next e. omega (arith, (answered s at c next e).2, size-le (map_number s at));
+      reached = (longest, Prime, longest_read);
     }

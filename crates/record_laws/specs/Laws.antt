@@ -1,32 +1,32 @@
 -- The laws of the two records, for every configuration and every call. Statements only; proofs/ConfigBack.antt and
 -- proofs/CallBack.antt prove them.
-use Rattle·laws.specs.declared.config.PlaneGuidanceConfig.{PlaneGuidanceConfig}
-use Rattle·fields.specs.Numbers.{AreF32}
-use Rattle·fields.specs.Laws.{Laws, Longest}
-use Rattle·config_numbers.specs.Numbers.{numbersOf}
-use Rattle·records.specs.declared.call.Call.{Call}
-use Rattle·records.specs.declared.config.ReadConfig.the-variants as config
-use Rattle·records.specs.declared.call.ReadCall.the-variants as call
-use Rattle·records.specs.Config as Config
-use Rattle·records.specs.Call as Call
+use Rattle.laws.specs.declared.config.PlaneGuidanceConfig.{PlaneGuidanceConfig}
+use Rattle.fields.specs.Numbers.{AreF32}
+use Rattle.fields.specs.Laws.{Laws, Longest}
+use Rattle.config_numbers.specs.Numbers.{numbers_of}
+use Rattle.records.specs.declared.call.Call.{Call}
+use Rattle.records.specs.declared.config.ReadConfig.TheVariants as config
+use Rattle.records.specs.declared.call.ReadCall.TheVariants as call
+use Rattle.records.specs.Config as Config
+use Rattle.records.specs.Call as Call
 
 -- f32s hold the numbers of a configuration
 abbrev pub ConfigF32 : PlaneGuidanceConfig → Type 0
-ConfigF32 c = AreF32 (numbersOf c)
+ConfigF32 c = AreF32 (numbers_of c)
 
 abbrev pub ConfigLaws : Type 0
-ConfigLaws = Laws ConfigF32 Config.configRecord Config.readConfig config.Read
+ConfigLaws = Laws ConfigF32 Config.config_record Config.read_config config.Read
 
 -- f32s hold the numbers of a call
 abbrev pub CallF32 : Call → Type 0
-CallF32 c = AreF32 (Call.partsOf c .numbers)
+CallF32 c = AreF32 (Call.parts_of c).numbers
 
 abbrev pub CallLaws : Type 0
-CallLaws = Laws CallF32 Call.callRecord Call.readCall call.Read
+CallLaws = Laws CallF32 Call.call_record Call.read_call call.Read
 
 -- the lengths that a host sets aside: 5 + 4 · 33 bytes, and 4 + 2 + 4 · 20
 abbrev pub ConfigLongest : Type 0
-ConfigLongest = Longest 137 Config.configRecord Config.readConfig config.Read
+ConfigLongest = Longest 137 Config.config_record Config.read_config config.Read
 
 abbrev pub CallLongest : Type 0
-CallLongest = Longest 86 Call.callRecord Call.readCall call.Read
+CallLongest = Longest 86 Call.call_record Call.read_call call.Read

@@ -1,122 +1,119 @@
 -- Call record: "4-byte map, low byte first, then fields by bit". Definitions only.
-use mathlib.Core.Bool.{Bool, cond, not, _&&_, _||_}
-use mathlib.Core.List.{List, [], _∷_, _++_}
-use Prim.Native.Nat.{ℕ, _+_, _-_, _/_, _%_, _^_}
-use lib.Dec.{eqb, ltb}
-use lib.ListN.{length, drop, getD, replicate}
-use lib.Ieee.{Float, nan, binary32, ofBits}
-use Rattle·laws.specs.declared.types.OptionF32.{OptionF32}
-use Rattle·laws.specs.declared.types.OptionF32.the-variants as number
-use Rattle·laws.specs.declared.types.OptionVec2.{OptionVec2}
-use Rattle·laws.specs.declared.types.OptionVec2.the-variants as leg
-use Rattle·laws.specs.declared.types.FlightRegime.{FlightRegime}
-use Rattle·laws.specs.declared.types.FlightRegime.the-variants.{Copter, Plane}
-use Rattle·laws.specs.declared.types.AttitudeCommand.{AttitudeCommand}
-use Rattle·laws.specs.declared.types.RateCommand.{RateCommand}
-use Rattle·laws.specs.declared.types.WaypointCommand.{WaypointCommand}
-use Rattle·laws.specs.declared.types.AbsoluteAttitudeCommand.{AbsoluteAttitudeCommand}
-use Rattle·laws.specs.declared.types.AbsoluteRateCommand.{AbsoluteRateCommand}
-use Rattle·laws.specs.declared.types.VehicleState.{VehicleState}
-use Rattle·fields.specs.Bytes.{numberAt, bytesOf, hasBytes}
-use Rattle·fields.specs.Fields.{Field, stands, named, sizeOf, valuesAt, mapOf, bodyOf, numberFields}
-use Rattle·fields.specs.Numbers.{floatsOf, bitsOf}
-use Rattle·records·specs.specs.declared.call_writer.Parts.{Parts}
-use Rattle·records·specs.specs.declared.call.Call.{Call}
-use Rattle·records·specs.specs.declared.call.Call.the-variants.{Prime, Attitude, Rate, Waypoint, AbsoluteAttitude, Land, AbsoluteRate}
-use Rattle·records·specs.specs.declared.call.ReadCall.{ReadCall}
-use Rattle·records·specs.specs.declared.call.ReadCall.the-variants as read
-use Rattle·records·specs.specs.declared.call.Skipped.{Skipped}
-use Rattle·records·specs.specs.declared.call.Skipped.the-variants as skip
+use Rattle.std.specs.Prelude.{Bool, cond, not, ◌&&◌, ◌||◌, List, [], ◌∷◌, ◌++◌, ℕ, ◌+◌, ◌-◌, ◌/◌, ◌%◌, ◌^◌, eqb, ltb, drop, get_or, replicate, Float}
+use Rattle.std.specs.Float.{nan, binary32}
+use Rattle.std.specs.Float.Ieee.{of_bits}
+use Rattle.laws.specs.declared.types.OptionF32.{OptionF32}
+use Rattle.laws.specs.declared.types.OptionF32.TheVariants as number
+use Rattle.laws.specs.declared.types.OptionVec2.{OptionVec2}
+use Rattle.laws.specs.declared.types.OptionVec2.TheVariants as leg
+use Rattle.laws.specs.declared.types.FlightRegime.{FlightRegime}
+use Rattle.laws.specs.declared.types.FlightRegime.TheVariants.{Copter, Plane}
+use Rattle.laws.specs.declared.types.AttitudeCommand.{AttitudeCommand}
+use Rattle.laws.specs.declared.types.RateCommand.{RateCommand}
+use Rattle.laws.specs.declared.types.WaypointCommand.{WaypointCommand}
+use Rattle.laws.specs.declared.types.AbsoluteAttitudeCommand.{AbsoluteAttitudeCommand}
+use Rattle.laws.specs.declared.types.AbsoluteRateCommand.{AbsoluteRateCommand}
+use Rattle.laws.specs.declared.types.VehicleState.{VehicleState}
+use Rattle.fields.specs.Bytes.{number_at, bytes_of, has_bytes}
+use Rattle.fields.specs.Fields.{Field, stands, named, size_of, values_at, map_of, body_of, number_fields}
+use Rattle.fields.specs.Numbers.{floats_of, bits_of}
+use Rattle.records.specs.declared.call_writer.Parts.{Parts}
+use Rattle.records.specs.declared.call.Call.{Call}
+use Rattle.records.specs.declared.call.Call.TheVariants.{Prime, Attitude, Rate, Waypoint, AbsoluteAttitude, Land, AbsoluteRate}
+use Rattle.records.specs.declared.call.ReadCall.{ReadCall}
+use Rattle.records.specs.declared.call.ReadCall.TheVariants as read
+use Rattle.records.specs.declared.call.Skipped.{Skipped}
+use Rattle.records.specs.declared.call.Skipped.TheVariants as skip
 
 -- +0
 abbrev pub zero : Float
-zero = ofBits binary32 0
+zero = of_bits binary32 0
 
 -- bit 0 kind byte; 1 regime byte, missing is plane; 2 to 21 numbers, missing is +0
-unfoldable pub callFields : List Field
-callFields = record { bytes = 1; missing = 0 } ∷ record { bytes = 1; missing = 1 } ∷ numberFields (replicate 20 0)
+unfoldable pub call_fields : List Field
+call_fields = record { bytes = 1; missing = 0 } ∷ record { bytes = 1; missing = 1 } ∷ number_fields (replicate 20 0)
 
 -- ---- reading
 
 -- what 6 asks of a map: no unnamed bit, the kind bit, both parts of a leg or neither
 unfoldable pub complete : ℕ → Bool
-complete m = named callFields m && stands m && eqb (m / 2 ^ 9 % 2) (m / 2 ^ 10 % 2)
+complete m = named call_fields m && stands m && eqb (m / 2 ^ 9 % 2) (m / 2 ^ 10 % 2)
 
 -- what 7 refuses: a kind byte above 6, or a regime byte above 1
 unfoldable pub unknown : ℕ → ℕ → Bool
 unknown kind regime = ltb 6 kind || ltb 1 regime
 
 -- 0 copter, 1 plane
-unfoldable pub regimeOf : ℕ → FlightRegime
-regimeOf r = cond (eqb r 0) Copter Plane
+unfoldable pub regime_of : ℕ → FlightRegime
+regime_of r = cond (eqb r 0) Copter Plane
 
 -- the number of bit n, where v has those of bits 2 to 21
 abbrev pub at : List Float → ℕ → Float
-at v n = getD v (n - 2) nan
+at v n = get_or v (n - 2) nan
 
 -- a number that is none where its bit, the lowest of a map, does not stand
-unfoldable pub optionOf : ℕ → Float → OptionF32
-optionOf m x = cond (stands m) (number.Some x) number.None
+unfoldable pub option_of : ℕ → Float → OptionF32
+option_of m x = cond (stands m) (number.Some x) number.None
 
 -- a leg likewise
-unfoldable pub legOf : ℕ → Float → Float → OptionVec2
-legOf m x y = cond (stands m) (leg.Some (record { x = x; y = y })) leg.None
+unfoldable pub leg_of : ℕ → Float → Float → OptionVec2
+leg_of m x y = cond (stands m) (leg.Some (record { x = x; y = y })) leg.None
 
 -- bits 3 to 6: command numbers in the order `guide_capped` reads them
-unfoldable pub attitudeAt : List Float → AttitudeCommand
-attitudeAt v = record { throttle = at v 5; roll = at v 3; pitch = at v 4 }
+unfoldable pub attitude_at : List Float → AttitudeCommand
+attitude_at v = record { throttle = at v 5; roll = at v 3; pitch = at v 4 }
 
-unfoldable pub rateAt : List Float → RateCommand
-rateAt v = record { throttle = at v 6; «roll_rate» = at v 3; «pitch_rate» = at v 4; «yaw_rate» = at v 5 }
+unfoldable pub rate_at : List Float → RateCommand
+rate_at v = record { throttle = at v 6; roll_rate = at v 3; pitch_rate = at v 4; yaw_rate = at v 5 }
 
-unfoldable pub absoluteAttitudeAt : List Float → AbsoluteAttitudeCommand
-absoluteAttitudeAt v = record { «roll_rad» = at v 3; «pitch_rad» = at v 4; thrust = at v 5 }
+unfoldable pub absolute_attitude_at : List Float → AbsoluteAttitudeCommand
+absolute_attitude_at v = record { roll_rad = at v 3; pitch_rad = at v 4; thrust = at v 5 }
 
-unfoldable pub absoluteRateAt : List Float → AbsoluteRateCommand
-absoluteRateAt v = record { «roll_radps» = at v 3; «pitch_radps» = at v 4; «yaw_radps» = at v 5; thrust = at v 6 }
+unfoldable pub absolute_rate_at : List Float → AbsoluteRateCommand
+absolute_rate_at v = record { roll_radps = at v 3; pitch_radps = at v 4; yaw_radps = at v 5; thrust = at v 6 }
 
 -- 7, 8 waypoint; 9, 10 leg; 11 altitude; 12 cruise speed
-unfoldable pub waypointAt : ℕ → List Float → WaypointCommand
-waypointAt m v = record {
-  «position_m» = record { x = at v 7; y = at v 8 };
-  «velocity_mps» = legOf (m / 2 ^ 9) (at v 9) (at v 10);
-  «altitude_m» = at v 11;
-  «cruise_speed_mps» = at v 12;
+unfoldable pub waypoint_at : ℕ → List Float → WaypointCommand
+waypoint_at m v = record {
+  position_m = record { x = at v 7; y = at v 8 };
+  velocity_mps = leg_of (m / 2 ^ 9) (at v 9) (at v 10);
+  altitude_m = at v 11;
+  cruise_speed_mps = at v 12;
 }
 
 -- 13 to 15 position; 16 to 18 velocity; 19 roll; 20 airspeed
-unfoldable pub stateAt : ℕ → List Float → VehicleState
-stateAt m v = record {
-  «position_m» = record { x = at v 13; y = at v 14; z = at v 15 };
-  «velocity_mps» = record { x = at v 16; y = at v 17; z = at v 18 };
-  «roll_rad» = at v 19;
-  «airspeed_mps» = optionOf (m / 2 ^ 20) (at v 20);
+unfoldable pub state_at : ℕ → List Float → VehicleState
+state_at m v = record {
+  position_m = record { x = at v 13; y = at v 14; z = at v 15 };
+  velocity_mps = record { x = at v 16; y = at v 17; z = at v 18 };
+  roll_rad = at v 19;
+  airspeed_mps = option_of (m / 2 ^ 20) (at v 20);
 }
 
 -- the call of a kind: a field that its kind doesn't use is no part of it; 2 time step; 21 cap
-unfoldable pub callAt : ℕ → FlightRegime → ℕ → List Float → Call
-callAt kind r m v =
+unfoldable pub call_at : ℕ → FlightRegime → ℕ → List Float → Call
+call_at kind r m v =
     cond (eqb kind 0) Prime
-    (cond (eqb kind 1) (Attitude r (at v 2) (attitudeAt v))
-    (cond (eqb kind 2) (Rate r (at v 2) (rateAt v))
-    (cond (eqb kind 3) (Waypoint r (at v 2) (waypointAt m v) (stateAt m v) (optionOf (m / 2 ^ 21) (at v 21)))
-    (cond (eqb kind 4) (AbsoluteAttitude r (at v 2) (absoluteAttitudeAt v))
+    (cond (eqb kind 1) (Attitude r (at v 2) (attitude_at v))
+    (cond (eqb kind 2) (Rate r (at v 2) (rate_at v))
+    (cond (eqb kind 3) (Waypoint r (at v 2) (waypoint_at m v) (state_at m v) (option_of (m / 2 ^ 21) (at v 21)))
+    (cond (eqb kind 4) (AbsoluteAttitude r (at v 2) (absolute_attitude_at v))
     (cond (eqb kind 5) (Land r (at v 2))
-    (AbsoluteRate r (at v 2) (absoluteRateAt v)))))))
+    (AbsoluteRate r (at v 2) (absolute_rate_at v)))))))
 
 -- 5 for a place past the end or a map cut short, 6, 5 for fewer bytes than the map demands, 7
-unfoldable pub readCall : List ℕ → ℕ → ReadCall
-readCall s at =
-    let map = numberAt 4 (drop at s) in
-    let size = 4 + sizeOf callFields map in
-    let values = valuesAt callFields map (drop (at + 4) s) in
-    let kind = getD values 0 0 in
-    let regime = getD values 1 0 in
-    cond (not (hasBytes s at 4)) (read.Refused 5)
+unfoldable pub read_call : List ℕ → ℕ → ReadCall
+read_call s at =
+    let map = number_at 4 (drop at s) in
+    let size = 4 + size_of call_fields map in
+    let values = values_at call_fields map (drop (at + 4) s) in
+    let kind = get_or values 0 0 in
+    let regime = get_or values 1 0 in
+    cond (not (has_bytes s at 4)) (read.Refused 5)
     (cond (not (complete map)) (read.Refused 6)
-    (cond (not (hasBytes s at size)) (read.Refused 5)
+    (cond (not (has_bytes s at size)) (read.Refused 5)
     (cond (unknown kind regime) (read.Refused 7)
-    (read.Read (callAt kind (regimeOf regime) map (floatsOf (drop 2 values))) (at + size)))))
+    (read.Read (call_at kind (regime_of regime) map (floats_of (drop 2 values))) (at + size)))))
 
 -- the place after the record, without the call
 abbrev pub skipped : ReadCall → Skipped
@@ -125,34 +122,34 @@ skipped (read.Refused r) = skip.Refused r
 
 -- ---- writing
 
-abbrev pub regimeByte : FlightRegime → ℕ
-regimeByte Copter = 0
-regimeByte Plane = 1
+abbrev pub regime_byte : FlightRegime → ℕ
+regime_byte Copter = 0
+regime_byte Plane = 1
 
-abbrev pub numberOr0 : OptionF32 → Float
-numberOr0 number.None = zero
-numberOr0 (number.Some x) = x
+abbrev pub number_or0 : OptionF32 → Float
+number_or0 number.None = zero
+number_or0 (number.Some x) = x
 
-abbrev pub hasNumber : OptionF32 → ℕ
-hasNumber number.None = 0
-hasNumber (number.Some x) = 1
+abbrev pub has_number : OptionF32 → ℕ
+has_number number.None = 0
+has_number (number.Some x) = 1
 
-abbrev pub legNorth : OptionVec2 → Float
-legNorth leg.None = zero
-legNorth (leg.Some l) = l .x
+abbrev pub leg_north : OptionVec2 → Float
+leg_north leg.None = zero
+leg_north (leg.Some l) = l.x
 
-abbrev pub legEast : OptionVec2 → Float
-legEast leg.None = zero
-legEast (leg.Some l) = l .y
+abbrev pub leg_east : OptionVec2 → Float
+leg_east leg.None = zero
+leg_east (leg.Some l) = l.y
 
-abbrev pub hasLeg : OptionVec2 → ℕ
-hasLeg leg.None = 0
-hasLeg (leg.Some l) = 1
+abbrev pub has_leg : OptionVec2 → ℕ
+has_leg leg.None = 0
+has_leg (leg.Some l) = 1
 
 -- What a record has of a call: the two bytes, the numbers of bits 2 to 21, and a 1 for each number that is written whatever
 -- its value. A number that its kind doesn't use is +0, what missing would give, and so is never written.
-unfoldable pub commandParts : ℕ → ℕ → Float → Float → Float → Float → Float → Parts
-commandParts kind regime dt a b c d = record {
+unfoldable pub command_parts : ℕ → ℕ → Float → Float → Float → Float → Float → Parts
+command_parts kind regime dt a b c d = record {
   kind = kind;
   regime = regime;
   numbers = dt ∷ a ∷ b ∷ c ∷ d ∷ replicate 15 zero;
@@ -160,43 +157,43 @@ commandParts kind regime dt a b c d = record {
 }
 
 -- a leg, an airspeed and a cap that are present are written whatever their values
-unfoldable pub waypointParts : ℕ → Float → WaypointCommand → VehicleState → OptionF32 → Parts
-waypointParts regime dt c s cap = record {
+unfoldable pub waypoint_parts : ℕ → Float → WaypointCommand → VehicleState → OptionF32 → Parts
+waypoint_parts regime dt c s cap = record {
   kind = 3;
   regime = regime;
   numbers =
       dt ∷ zero ∷ zero ∷ zero ∷ zero ∷
-      c .«position_m» .x ∷ c .«position_m» .y ∷
-      legNorth (c .«velocity_mps») ∷ legEast (c .«velocity_mps») ∷
-      c .«altitude_m» ∷ c .«cruise_speed_mps» ∷
-      s .«position_m» .x ∷ s .«position_m» .y ∷ s .«position_m» .z ∷
-      s .«velocity_mps» .x ∷ s .«velocity_mps» .y ∷ s .«velocity_mps» .z ∷
-      s .«roll_rad» ∷ numberOr0 (s .«airspeed_mps») ∷ numberOr0 cap ∷ [];
+      c.position_m.x ∷ c.position_m.y ∷
+      leg_north c.velocity_mps ∷ leg_east c.velocity_mps ∷
+      c.altitude_m ∷ c.cruise_speed_mps ∷
+      s.position_m.x ∷ s.position_m.y ∷ s.position_m.z ∷
+      s.velocity_mps.x ∷ s.velocity_mps.y ∷ s.velocity_mps.z ∷
+      s.roll_rad ∷ number_or0 s.airspeed_mps ∷ number_or0 cap ∷ [];
   keeps =
-      0 ∷ 0 ∷ 0 ∷ 0 ∷ 0 ∷ 0 ∷ 0 ∷ hasLeg (c .«velocity_mps») ∷ hasLeg (c .«velocity_mps») ∷
-      0 ∷ 0 ∷ 0 ∷ 0 ∷ 0 ∷ 0 ∷ 0 ∷ 0 ∷ 0 ∷ hasNumber (s .«airspeed_mps») ∷ hasNumber cap ∷ [];
+      0 ∷ 0 ∷ 0 ∷ 0 ∷ 0 ∷ 0 ∷ 0 ∷ has_leg c.velocity_mps ∷ has_leg c.velocity_mps ∷
+      0 ∷ 0 ∷ 0 ∷ 0 ∷ 0 ∷ 0 ∷ 0 ∷ 0 ∷ 0 ∷ has_number s.airspeed_mps ∷ has_number cap ∷ [];
 }
 
 -- a prime has no regime: what missing would give
-unfoldable pub partsOf : Call → Parts
-partsOf Prime = commandParts 0 1 zero zero zero zero zero
-partsOf (Attitude r dt c) = commandParts 1 (regimeByte r) dt (c .roll) (c .pitch) (c .throttle) zero
-partsOf (Rate r dt c) = commandParts 2 (regimeByte r) dt (c .«roll_rate») (c .«pitch_rate») (c .«yaw_rate») (c .throttle)
-partsOf (Waypoint r dt c s cap) = waypointParts (regimeByte r) dt c s cap
-partsOf (AbsoluteAttitude r dt c) = commandParts 4 (regimeByte r) dt (c .«roll_rad») (c .«pitch_rad») (c .thrust) zero
-partsOf (Land r dt) = commandParts 5 (regimeByte r) dt zero zero zero zero
-partsOf (AbsoluteRate r dt c) = commandParts 6 (regimeByte r) dt (c .«roll_radps») (c .«pitch_radps») (c .«yaw_radps») (c .thrust)
+unfoldable pub parts_of : Call → Parts
+parts_of Prime = command_parts 0 1 zero zero zero zero zero
+parts_of (Attitude r dt c) = command_parts 1 (regime_byte r) dt c.roll c.pitch c.throttle zero
+parts_of (Rate r dt c) = command_parts 2 (regime_byte r) dt c.roll_rate c.pitch_rate c.yaw_rate c.throttle
+parts_of (Waypoint r dt c s cap) = waypoint_parts (regime_byte r) dt c s cap
+parts_of (AbsoluteAttitude r dt c) = command_parts 4 (regime_byte r) dt c.roll_rad c.pitch_rad c.thrust zero
+parts_of (Land r dt) = command_parts 5 (regime_byte r) dt zero zero zero zero
+parts_of (AbsoluteRate r dt c) = command_parts 6 (regime_byte r) dt c.roll_radps c.pitch_radps c.yaw_radps c.thrust
 
 -- the values of bits 0 to 21
-unfoldable pub valuesOf : Parts → List ℕ
-valuesOf p = p .kind ∷ p .regime ∷ bitsOf (p .numbers)
+unfoldable pub values_of : Parts → List ℕ
+values_of p = p.kind ∷ p.regime ∷ bits_of p.numbers
 
 -- the map; the kind is always written
-unfoldable pub mapOfParts : Parts → ℕ
-mapOfParts p = mapOf callFields (1 ∷ 0 ∷ p .keeps) (valuesOf p)
+unfoldable pub map_of_parts : Parts → ℕ
+map_of_parts p = map_of call_fields (1 ∷ 0 ∷ p.keeps) (values_of p)
 
 -- a call's record
-unfoldable pub callRecord : Call → List ℕ
-callRecord c =
-    let p = partsOf c in
-    bytesOf 4 (mapOfParts p) ++ bodyOf callFields (mapOfParts p) (valuesOf p)
+unfoldable pub call_record : Call → List ℕ
+call_record c =
+    let p = parts_of c in
+    bytes_of 4 (map_of_parts p) ++ body_of call_fields (map_of_parts p) (values_of p)

@@ -1,38 +1,34 @@
 -- Configuration record: "5-byte map, bit n-1 for field n, then fields; missing means the Default value". Definitions only.
-use mathlib.Core.Bool.{cond, not}
-use mathlib.Core.List.{List, [], _∷_, _++_}
-use Prim.Native.Nat.{ℕ, _+_}
-use lib.ListN.{length, drop, getD, replicate}
-use lib.Ieee.{Float, nan}
-use Rattle·laws.specs.declared.config.PlaneGuidanceConfig.{PlaneGuidanceConfig}
-use Rattle·laws.specs.Config.{default}
-use Rattle·config_numbers.specs.Numbers.{numbersOf, configOf}
-use Rattle·fields.specs.Bytes.{numberAt, bytesOf, hasBytes}
-use Rattle·fields.specs.Fields.{Field, named, sizeOf, valuesAt, mapOf, bodyOf, numberFields}
-use Rattle·fields.specs.Numbers.{floatsOf, bitsOf}
-use Rattle·records·specs.specs.declared.config.ReadConfig.{ReadConfig}
-use Rattle·records·specs.specs.declared.config.ReadConfig.the-variants as read
+use Rattle.std.specs.Prelude.{cond, not, List, ◌++◌, ℕ, ◌+◌, drop, replicate}
+use Rattle.laws.specs.declared.config.PlaneGuidanceConfig.{PlaneGuidanceConfig}
+use Rattle.laws.specs.Config.{default}
+use Rattle.config_numbers.specs.Numbers.{numbers_of, config_of}
+use Rattle.fields.specs.Bytes.{number_at, bytes_of, has_bytes}
+use Rattle.fields.specs.Fields.{Field, named, size_of, values_at, map_of, body_of, number_fields}
+use Rattle.fields.specs.Numbers.{floats_of, bits_of}
+use Rattle.records.specs.declared.config.ReadConfig.{ReadConfig}
+use Rattle.records.specs.declared.config.ReadConfig.TheVariants as read
 
 -- the fields, with the Default values' bits
-unfoldable pub configFields : List Field
-configFields = numberFields (bitsOf (numbersOf default))
+unfoldable pub config_fields : List Field
+config_fields = number_fields (bits_of (numbers_of default))
 
 -- ---- reading: 5 for a place past the end or a map cut short, 6 for an unnamed bit, 5 for fewer bytes than the map demands
 
-unfoldable pub readConfig : List ℕ → ℕ → ReadConfig
-readConfig s at =
-    let map = numberAt 5 (drop at s) in
-    let size = 5 + sizeOf configFields map in
-    cond (not (hasBytes s at 5)) (read.Refused 5)
-    (cond (not (named configFields map)) (read.Refused 6)
-    (cond (not (hasBytes s at size)) (read.Refused 5)
-    (read.Read (configOf (floatsOf (valuesAt configFields map (drop (at + 5) s)))) (at + size))))
+unfoldable pub read_config : List ℕ → ℕ → ReadConfig
+read_config s at =
+    let map = number_at 5 (drop at s) in
+    let size = 5 + size_of config_fields map in
+    cond (not (has_bytes s at 5)) (read.Refused 5)
+    (cond (not (named config_fields map)) (read.Refused 6)
+    (cond (not (has_bytes s at size)) (read.Refused 5)
+    (read.Read (config_of (floats_of (values_at config_fields map (drop (at + 5) s)))) (at + size))))
 
 -- ---- writing: no field is written whatever its value
 
-unfoldable pub configMap : PlaneGuidanceConfig → ℕ
-configMap c = mapOf configFields (replicate 33 0) (bitsOf (numbersOf c))
+unfoldable pub config_map : PlaneGuidanceConfig → ℕ
+config_map c = map_of config_fields (replicate 33 0) (bits_of (numbers_of c))
 
 -- a configuration's record
-unfoldable pub configRecord : PlaneGuidanceConfig → List ℕ
-configRecord c = bytesOf 5 (configMap c) ++ bodyOf configFields (configMap c) (bitsOf (numbersOf c))
+unfoldable pub config_record : PlaneGuidanceConfig → List ℕ
+config_record c = bytes_of 5 (config_map c) ++ body_of config_fields (config_map c) (bits_of (numbers_of c))

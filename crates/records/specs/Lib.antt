@@ -1,4 +1,4 @@
--- Document 01, "Records and desk program": the configuration record and the call record. `code` has the code's own steps.
+-- Document 01, "Records and desk program": the configuration record and the call record. `Code` has the code's own steps.
 pub mod Config
 pub mod Call
-pub mod code
+pub mod Code

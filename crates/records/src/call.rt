@@ -1,27 +1,18 @@
 // The call record, a 4-byte map, then fields by bit: what it holds, and its reader.
+ghost use Rattle.std.specs.Prelude.{◌≡◌, ◌≤◌, ◌<◌, ◌+◌, ◌*◌, ◌%◌, length, drop, replicate};
+ghost use Rattle.fields.specs.Fields.{ones, size_of, values_at, number_fields};
+ghost use Rattle.fields.specs.Numbers.{floats_of};
+ghost use Rattle.records.specs.Call as spec;
+ghost use Rattle.records.specs.Code.Steps.{byte_at};
+
 use arithmetic::vector::Vec2;
-use fields::Cursor;
 use fields::bytes::read_number;
-use fields::count;
-use fields::numbers::read_floats;
-use fields::numbers::read_group;
-use laws::types::AbsoluteAttitudeCommand;
-use laws::types::AbsoluteRateCommand;
-use laws::types::AttitudeCommand;
-use laws::types::FlightRegime;
-use laws::types::OptionF32;
-use laws::types::OptionVec2;
-use laws::types::RateCommand;
-use laws::types::Vec3;
-use laws::types::VehicleState;
-use laws::types::WaypointCommand;
-ghost use mathlib.Core.Path.{_≡_};
-ghost use Prim.Native.Nat.{_≤_, _<_, _+_, _*_, _%_};
-ghost use lib.ListN.{length, drop, replicate};
-ghost use Rattle·fields.specs.Fields.{ones, sizeOf, valuesAt, numberFields};
-ghost use Rattle·fields.specs.Numbers.{floatsOf};
-ghost use Rattle·records·specs.specs.Call as spec;
-ghost use Rattle·records·specs.specs.code.Steps.{byteAt};
+use fields::numbers::{read_floats, read_group};
+use fields::{Cursor, count};
+use laws::types::{
+    AbsoluteAttitudeCommand, AbsoluteRateCommand, AttitudeCommand, FlightRegime, OptionF32,
+    OptionVec2, RateCommand, Vec3, VehicleState, WaypointCommand,
+};
 
 // The bits of the map that the reader looks at: 0 kind, 1 regime, 2 to 21 numbers, of these 9 and 10 the leg, 20 airspeed and 21 cap.
 const FIRST_NUMBER: u64 = 1 << 2;
@@ -40,6 +31,7 @@ const FIRST_UNNAMED: u64 = 1 << 22;
 const ALL_NUMBERS: u64 = 1 << 20;
 
 // A call by its kind, with what the kind uses.
+#[derive(Clone, Copy)]
 pub enum Call {
     Prime,
     Attitude {
@@ -76,12 +68,14 @@ pub enum Call {
 }
 
 // What the reader answers: the call and the place after the record, or the refusal's number.
+#[derive(Clone, Copy)]
 pub enum ReadCall {
     Read { call: Call, next: usize },
     Refused(u8),
 }
 
 // What is left of that without the call: the place after the record, or the refusal's number.
+#[derive(Clone, Copy)]
 pub enum Skipped {
     Next(usize),
     Refused(u8),
@@ -89,7 +83,7 @@ pub enum Skipped {
 
 // What refusal 6 asks of a map: no unnamed bit, the kind bit, both parts of a leg or neither.
 pub fn is_complete(map: u64) -> bool
-    ensures { λ r. ⌜ r ≡ spec.complete map ⌝ }
+    ensures { result ≡ spec.complete map }
 {
     if FIRST_UNNAMED <= map {
         return false;
@@ -102,7 +96,7 @@ pub fn is_complete(map: u64) -> bool
 
 // The byte count of the fields that stand in a map.
 pub fn fields_size(map: u64) -> usize
-    ensures { λ r. ⌜ (r ≡ sizeOf spec.callFields map) × (r ≤ 82) ⌝ }
+    ensures { (result ≡ size_of spec.call_fields map) × (result ≤ 82) }
 {
     let kind = (map % 2) as usize;
     let regime = (map / 2 % 2) as usize;
@@ -110,6 +104,7 @@ pub fn fields_size(map: u64) -> usize
 }
 
 // A field of one byte that was read or is missing, and where the next one starts.
+#[derive(Clone, Copy)]
 pub struct ByteRead {
     pub value: u64,
     pub rest: Cursor,
@@ -117,8 +112,8 @@ pub struct ByteRead {
 
 // Reads a field of one byte whose bit stands, or gives what missing means.
 fn read_byte(s: &[u8], from: Cursor, stands: u64, missing: u64) -> ByteRead
-    requires { ⌜ from .at + stands % 2 ≤ length (now s) ⌝ }
-    ensures { λ r. ⌜ r ≡ byteAt (now (s .entry)) (from .at) stands missing ⌝ }
+    requires { from.at + stands % 2 ≤ length s.now }
+    ensures { result ≡ byte_at s.now from.at stands missing }
 {
     if stands % 2 == 1 {
         let at = from.at;
@@ -135,7 +130,7 @@ fn read_byte(s: &[u8], from: Cursor, stands: u64, missing: u64) -> ByteRead
 }
 
 fn regime_of(byte: u64) -> FlightRegime
-    ensures { λ r. ⌜ r ≡ spec.regimeOf byte ⌝ }
+    ensures { result ≡ spec.regime_of byte }
 {
     if byte == 0 {
         FlightRegime::Copter
@@ -146,7 +141,7 @@ fn regime_of(byte: u64) -> FlightRegime
 
 // A number that is none where its bit, the lowest of map, does not stand.
 fn option_of(map: u64, x: f32) -> OptionF32
-    ensures { λ r. ⌜ r ≡ spec.optionOf map x ⌝ }
+    ensures { result ≡ spec.option_of map x }
 {
     if map % 2 == 1 {
         OptionF32::Some(x)
@@ -156,7 +151,7 @@ fn option_of(map: u64, x: f32) -> OptionF32
 }
 
 fn leg_of(map: u64, x: f32, y: f32) -> OptionVec2
-    ensures { λ r. ⌜ r ≡ spec.legOf map x y ⌝ }
+    ensures { result ≡ spec.leg_of map x y }
 {
     if map % 2 == 1 {
         OptionVec2::Some(Vec2 { x, y })
@@ -167,7 +162,7 @@ fn leg_of(map: u64, x: f32, y: f32) -> OptionVec2
 
 // Bits 7 to 12.
 fn waypoint_of(map: u64, v: [f32; 20]) -> WaypointCommand
-    ensures { λ r. ⌜ r ≡ spec.waypointAt map v ⌝ }
+    ensures { result ≡ spec.waypoint_at map v }
 {
     let velocity_mps = leg_of(map / LEG_NORTH, v[7], v[8]);
     WaypointCommand {
@@ -180,7 +175,7 @@ fn waypoint_of(map: u64, v: [f32; 20]) -> WaypointCommand
 
 // Bits 13 to 20.
 fn state_of(map: u64, v: [f32; 20]) -> VehicleState
-    ensures { λ r. ⌜ r ≡ spec.stateAt map v ⌝ }
+    ensures { result ≡ spec.state_at map v }
 {
     let airspeed_mps = option_of(map / AIRSPEED, v[18]);
     VehicleState {
@@ -201,7 +196,7 @@ fn state_of(map: u64, v: [f32; 20]) -> VehicleState
 
 // The call of a kind from 0 to 6; v has the numbers of bits 2 to 21.
 fn call_at(kind: u64, regime: FlightRegime, map: u64, v: [f32; 20]) -> Call
-    ensures { λ r. ⌜ r ≡ spec.callAt kind regime map v ⌝ }
+    ensures { result ≡ spec.call_at kind regime map v }
 {
     let dt = v[0];
     if kind == 0 {
@@ -273,8 +268,8 @@ fn call_at(kind: u64, regime: FlightRegime, map: u64, v: [f32; 20]) -> Call
 
 // Reads the number of bit 2, where none after it stands.
 fn read_step(s: &[u8], from: Cursor, map: u64) -> [f32; 20]
-    requires { ⌜ (map < 2) × (from .at + 4 * ones 20 map ≤ length (now s)) ⌝ }
-    ensures { λ r. ⌜ r ≡ floatsOf (valuesAt (numberFields (replicate 20 0)) map (drop (from .at) (now (s .entry)))) ⌝ }
+    requires { (map < 2) × (from.at + 4 * ones 20 map ≤ length s.now) }
+    ensures { result ≡ floats_of (values_at (number_fields (replicate 20 0)) map (drop from.at s.now)) }
 {
     let mut v = [0.0f32; 20];
     read_floats(s, from, map, &mut v[..1]);
@@ -283,8 +278,8 @@ fn read_step(s: &[u8], from: Cursor, map: u64) -> [f32; 20]
 
 // Reads the numbers of bits 2 to 6, where none after them stands.
 fn read_command(s: &[u8], from: Cursor, map: u64) -> [f32; 20]
-    requires { ⌜ (map < 32) × (from .at + 4 * ones 20 map ≤ length (now s)) ⌝ }
-    ensures { λ r. ⌜ r ≡ floatsOf (valuesAt (numberFields (replicate 20 0)) map (drop (from .at) (now (s .entry)))) ⌝ }
+    requires { (map < 32) × (from.at + 4 * ones 20 map ≤ length s.now) }
+    ensures { result ≡ floats_of (values_at (number_fields (replicate 20 0)) map (drop from.at s.now)) }
 {
     let mut v = [0.0f32; 20];
     read_floats(s, from, map, &mut v[..5]);
@@ -312,8 +307,8 @@ const WHOLE_NINE: u64 = (1 << 9) - 1;
 // Reads the numbers of bits 2 to 21 by groups, which as a rule stand whole: the command's, point, leg, altitude to roll, and
 // the two that may be absent.
 fn read_waypoint(s: &[u8], from: Cursor, map: u64) -> [f32; 20]
-    requires { ⌜ from .at + 4 * ones 20 map ≤ length (now s) ⌝ }
-    ensures { λ r. ⌜ r ≡ floatsOf (valuesAt (numberFields (replicate 20 0)) map (drop (from .at) (now (s .entry)))) ⌝ }
+    requires { from.at + 4 * ones 20 map ≤ length s.now }
+    ensures { result ≡ floats_of (values_at (number_fields (replicate 20 0)) map (drop from.at s.now)) }
 {
     let mut v = [0.0f32; 20];
     let second = read_floats(s, from, map % 32, &mut v[..5]);
@@ -326,8 +321,8 @@ fn read_waypoint(s: &[u8], from: Cursor, map: u64) -> [f32; 20]
 
 // Reads the numbers of bits 2 to 21; map has them from its lowest bit on.
 fn read_numbers(s: &[u8], from: Cursor, map: u64) -> [f32; 20]
-    requires { ⌜ from .at + 4 * ones 20 map ≤ length (now s) ⌝ }
-    ensures { λ r. ⌜ r ≡ floatsOf (valuesAt (numberFields (replicate 20 0)) map (drop (from .at) (now (s .entry)))) ⌝ }
+    requires { from.at + 4 * ones 20 map ≤ length s.now }
+    ensures { result ≡ floats_of (values_at (number_fields (replicate 20 0)) map (drop from.at s.now)) }
 {
     if map < 2 {
         return read_step(s, from, map);
@@ -339,7 +334,7 @@ fn read_numbers(s: &[u8], from: Cursor, map: u64) -> [f32; 20]
 }
 
 pub fn read_call(s: &[u8], at: usize) -> ReadCall
-    ensures { λ r. ⌜ r ≡ spec.readCall (now (s .entry)) at ⌝ }
+    ensures { result ≡ spec.read_call s.now at }
 {
     if s.len() < at {
         return ReadCall::Refused(5);
@@ -374,7 +369,7 @@ pub fn read_call(s: &[u8], at: usize) -> ReadCall
 // `read_call` without the numbers, for whoever goes over a recording before it is replayed. A function of its own, so that the reader of
 // such a program is called from one place and stays in line.
 pub fn skip_call(s: &[u8], at: usize) -> Skipped
-    ensures { λ r. ⌜ r ≡ spec.skipped (spec.readCall (now (s .entry)) at) ⌝ }
+    ensures { result ≡ spec.skipped (spec.read_call s.now at) }
 {
     if s.len() < at {
         return Skipped::Refused(5);

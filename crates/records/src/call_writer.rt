@@ -1,30 +1,20 @@
 // The writer of a call record.
-use crate::call::Call;
-use crate::call::fields_size;
-use fields::Written;
+ghost use Rattle.std.specs.Prelude.{◌≡◌, ◌∷◌, ◌++◌, ◌≤◌, ◌<◌, ◌+◌, ◌*◌, ◌%◌, ◌^◌, length, drop, replicate};
+ghost use Rattle.fields.specs.Bytes.{bytes_of, put_at};
+ghost use Rattle.fields.specs.Fields.{ones, size_of, is_written, bit_of, map_of, body_of, number_fields};
+ghost use Rattle.fields.specs.Numbers.{bits_of};
+ghost use Rattle.fields.specs.Writing.{answer_of, buffer_of};
+ghost use Rattle.records.specs.Call as spec;
+ghost use Rattle.records.specs.Code.Steps.{byte_of};
+
+use crate::call::{Call, fields_size};
 use fields::bytes::write_number;
-use fields::changed;
-use fields::map_of;
 use fields::numbers::bits;
-use fields::write_values;
-use laws::types::FlightRegime;
-use laws::types::OptionF32;
-use laws::types::OptionVec2;
-use laws::types::VehicleState;
-use laws::types::WaypointCommand;
-ghost use mathlib.Core.Path.{_≡_};
-ghost use mathlib.Core.List.{_∷_, _++_};
-ghost use Prim.Native.Nat.{_≤_, _<_, _+_, _*_, _%_, _^_};
-ghost use lib.ListN.{length, drop, replicate};
-ghost use Rattle·fields.specs.Bytes.{bytesOf, putAt};
-ghost use Rattle·fields.specs.Fields.{ones, sizeOf, isWritten, bitOf, mapOf, bodyOf, numberFields};
-ghost use Rattle·fields.specs.Numbers.{bitsOf};
-ghost use Rattle·fields.specs.Writing.{answerOf, bufferOf};
-ghost use Rattle·records·specs.specs.Call as spec;
-ghost use Rattle·records·specs.specs.code.Steps.{byteOf};
+use fields::{Written, changed, map_of, write_values};
+use laws::types::{FlightRegime, OptionF32, OptionVec2, VehicleState, WaypointCommand};
 
 fn regime_byte(regime: FlightRegime) -> u8
-    ensures { λ r. ⌜ (r ≡ spec.regimeByte regime) × (r ≤ 1) ⌝ }
+    ensures { (result ≡ spec.regime_byte regime) × (result ≤ 1) }
 {
     match regime {
         FlightRegime::Copter => 0,
@@ -33,7 +23,7 @@ fn regime_byte(regime: FlightRegime) -> u8
 }
 
 fn number_or_0(x: OptionF32) -> f32
-    ensures { λ r. ⌜ r ≡ spec.numberOr0 x ⌝ }
+    ensures { result ≡ spec.number_or0 x }
 {
     match x {
         OptionF32::None => 0.0,
@@ -42,7 +32,7 @@ fn number_or_0(x: OptionF32) -> f32
 }
 
 fn has_number(x: OptionF32) -> u8
-    ensures { λ r. ⌜ r ≡ spec.hasNumber x ⌝ }
+    ensures { result ≡ spec.has_number x }
 {
     match x {
         OptionF32::None => 0,
@@ -51,7 +41,7 @@ fn has_number(x: OptionF32) -> u8
 }
 
 fn leg_north(leg: OptionVec2) -> f32
-    ensures { λ r. ⌜ r ≡ spec.legNorth leg ⌝ }
+    ensures { result ≡ spec.leg_north leg }
 {
     match leg {
         OptionVec2::None => 0.0,
@@ -60,7 +50,7 @@ fn leg_north(leg: OptionVec2) -> f32
 }
 
 fn leg_east(leg: OptionVec2) -> f32
-    ensures { λ r. ⌜ r ≡ spec.legEast leg ⌝ }
+    ensures { result ≡ spec.leg_east leg }
 {
     match leg {
         OptionVec2::None => 0.0,
@@ -69,7 +59,7 @@ fn leg_east(leg: OptionVec2) -> f32
 }
 
 fn has_leg(leg: OptionVec2) -> u8
-    ensures { λ r. ⌜ r ≡ spec.hasLeg leg ⌝ }
+    ensures { result ≡ spec.has_leg leg }
 {
     match leg {
         OptionVec2::None => 0,
@@ -79,6 +69,7 @@ fn has_leg(leg: OptionVec2) -> u8
 
 // What a record has of a call: the two bytes, the numbers of bits 2 to 21, and a 1 for each number that is written
 // whatever its value.
+#[derive(Clone, Copy)]
 pub struct Parts {
     pub kind: u8,
     pub regime: u8,
@@ -88,31 +79,13 @@ pub struct Parts {
 
 // The parts of a command that is no waypoint; a, b, c and d are bits 3 to 6.
 fn command_parts(kind: u8, regime: u8, dt: f32, a: f32, b: f32, c: f32, d: f32) -> Parts
-    ensures { λ r. ⌜ r ≡ spec.commandParts kind regime dt a b c d ⌝ }
+    ensures { result ≡ spec.command_parts kind regime dt a b c d }
 {
     Parts {
         kind,
         regime,
         numbers: [
-            dt,
-            a,
-            b,
-            c,
-            d,
-            0.0,
-            0.0,
-            0.0,
-            0.0,
-            0.0,
-            0.0,
-            0.0,
-            0.0,
-            0.0,
-            0.0,
-            0.0,
-            0.0,
-            0.0,
-            0.0,
+            dt, a, b, c, d, 0.0, 0.0, 0.0, 0.0, 0.0, 0.0, 0.0, 0.0, 0.0, 0.0, 0.0, 0.0, 0.0, 0.0,
             0.0,
         ],
         keeps: [0u8; 20],
@@ -120,7 +93,7 @@ fn command_parts(kind: u8, regime: u8, dt: f32, a: f32, b: f32, c: f32, d: f32) 
 }
 
 fn waypoint_parts(regime: u8, dt: f32, c: WaypointCommand, s: VehicleState, cap: OptionF32) -> Parts
-    ensures { λ r. ⌜ r ≡ spec.waypointParts regime dt c s cap ⌝ }
+    ensures { result ≡ spec.waypoint_parts regime dt c s cap }
 {
     let leg = c.velocity_mps;
     let airspeed = s.airspeed_mps;
@@ -161,7 +134,7 @@ fn waypoint_parts(regime: u8, dt: f32, c: WaypointCommand, s: VehicleState, cap:
 }
 
 pub fn parts_of(call: Call) -> Parts
-    ensures { λ r. ⌜ r ≡ spec.partsOf call ⌝ }
+    ensures { result ≡ spec.parts_of call }
 {
     match call {
         Call::Prime => command_parts(0, 1, 0.0, 0.0, 0.0, 0.0, 0.0),
@@ -240,7 +213,7 @@ pub fn parts_of(call: Call) -> Parts
 
 // The bits of 20 numbers.
 pub fn bits_of(v: [f32; 20]) -> [u32; 20]
-    ensures { λ r. ⌜ r ≡ bitsOf v ⌝ }
+    ensures { result ≡ bits_of v }
 {
     let mut b = [0u32; 20];
     bits(&v, &mut b);
@@ -249,8 +222,8 @@ pub fn bits_of(v: [f32; 20]) -> [u32; 20]
 
 // The same of a command that is no waypoint: its numbers from the sixth on are +0.
 fn command_bits(v: [f32; 20]) -> [u32; 20]
-    requires { ⌜ drop 5 v ≡ replicate 15 spec.zero ⌝ }
-    ensures { λ r. ⌜ r ≡ bitsOf v ⌝ }
+    requires { drop 5 v ≡ replicate 15 spec.zero }
+    ensures { result ≡ bits_of v }
 {
     let mut b = [0u32; 20];
     bits(&v[..5], &mut b[..5]);
@@ -259,8 +232,8 @@ fn command_bits(v: [f32; 20]) -> [u32; 20]
 
 // The map of what is written: the kind, a regime that is not plane, and the numbers of a map.
 fn whole_map(regime: u8, numbers: u64) -> u64
-    requires { ⌜ (regime ≤ 1) × (numbers < 2 ^ 40) ⌝ }
-    ensures { λ r. ⌜ r ≡ 1 + 2 * (bitOf (isWritten 0 regime 1) + 2 * numbers) ⌝ }
+    requires { (regime ≤ 1) × (numbers < 2 ^ 40) }
+    ensures { result ≡ 1 + 2 * (bit_of (is_written 0 regime 1) + 2 * numbers) }
 {
     let copter = (1 - regime) as u64;
     1 + 2 * (copter + 2 * numbers)
@@ -268,8 +241,8 @@ fn whole_map(regime: u8, numbers: u64) -> u64
 
 // The map of a waypoint's record: the numbers that are kept or that missing would not give.
 fn waypoint_map(regime: u8, keeps: [u8; 20], v: [u32; 20]) -> u64
-    requires { ⌜ regime ≤ 1 ⌝ }
-    ensures { λ r. ⌜ r ≡ 1 + 2 * (bitOf (isWritten 0 regime 1) + 2 * mapOf (numberFields (replicate 20 0)) keeps v) ⌝ }
+    requires { regime ≤ 1 }
+    ensures { result ≡ 1 + 2 * (bit_of (is_written 0 regime 1) + 2 * map_of (number_fields (replicate 20 0)) keeps v) }
 {
     let missing = [0u32; 20];
     let numbers = map_of(&keeps, &v, &missing);
@@ -278,8 +251,8 @@ fn waypoint_map(regime: u8, keeps: [u8; 20], v: [u32; 20]) -> u64
 
 // The map of another command's record: of its first five numbers, those that missing would not give.
 fn command_map(regime: u8, v: [u32; 20]) -> u64
-    requires { ⌜ (regime ≤ 1) × (drop 5 v ≡ replicate 15 0) ⌝ }
-    ensures { λ r. ⌜ r ≡ 1 + 2 * (bitOf (isWritten 0 regime 1) + 2 * mapOf (numberFields (replicate 20 0)) (replicate 20 0) v) ⌝ }
+    requires { (regime ≤ 1) × (drop 5 v ≡ replicate 15 0) }
+    ensures { result ≡ 1 + 2 * (bit_of (is_written 0 regime 1) + 2 * map_of (number_fields (replicate 20 0)) (replicate 20 0) v) }
 {
     let missing = [0u32; 5];
     let numbers = changed(&v[..5], &missing);
@@ -287,6 +260,7 @@ fn command_map(regime: u8, v: [u32; 20]) -> u64
 }
 
 // The map of a record and the values of its fields.
+#[derive(Clone, Copy)]
 struct Record {
     map: u64,
     kind: u8,
@@ -295,7 +269,7 @@ struct Record {
 }
 
 fn record_of(call: Call) -> Record
-    ensures { λ r. ⌜ (r .map ≡ spec.mapOfParts (spec.partsOf call)) × (r .kind ≡ spec.partsOf call .kind) × (r .regime ≡ spec.partsOf call .regime) × (r .numbers ≡ bitsOf (spec.partsOf call .numbers)) ⌝ }
+    ensures { (result.map ≡ spec.map_of_parts (spec.parts_of call)) × (result.kind ≡ (spec.parts_of call).kind) × (result.regime ≡ (spec.parts_of call).regime) × (result.numbers ≡ bits_of (spec.parts_of call).numbers) }
 {
     let parts = parts_of(call);
     let kind = parts.kind;
@@ -324,8 +298,8 @@ fn record_of(call: Call) -> Record
 
 // Writes a field of one byte whose bit stands; the place after it.
 fn write_byte(part: &mut [u8], at: usize, stands: u64, value: u8) -> usize
-    requires { ⌜ at + stands % 2 ≤ length (now part) ⌝ }
-    ensures { λ r. ⌜ (now (part .exit) ≡ putAt (now (part .entry)) at (byteOf stands value)) × (r ≡ at + stands % 2) ⌝ }
+    requires { at + stands % 2 ≤ length part.old }
+    ensures { (part.new ≡ put_at part.old at (byte_of stands value)) × (result ≡ at + stands % 2) }
 {
     if stands % 2 == 1 {
         write_number(&mut part[at..], 1, value as u64);
@@ -336,8 +310,8 @@ fn write_byte(part: &mut [u8], at: usize, stands: u64, value: u8) -> usize
 
 // Writes the numbers of bits 2 to 21 that stand; map has them from its lowest bit on.
 fn write_numbers(part: &mut [u8], from: usize, map: u64, v: &[u32])
-    requires { ⌜ (from + 4 * ones 20 map ≤ length (now part)) × (length (now v) ≡ 20) ⌝ }
-    ensures { λ _. ⌜ now (part .exit) ≡ putAt (now (part .entry)) from (bodyOf (numberFields (now (v .entry))) map (now (v .entry))) ⌝ }
+    requires { (from + 4 * ones 20 map ≤ length part.old) × (length v.now ≡ 20) }
+    ensures { part.new ≡ put_at part.old from (body_of (number_fields v.now) map v.now) }
 {
     if map < 32 {
         write_values(part, from, map, &v[..5]);
@@ -348,8 +322,8 @@ fn write_numbers(part: &mut [u8], from: usize, map: u64, v: &[u32])
 
 // Writes the map and the fields that stand in it.
 fn write_fields(part: &mut [u8], map: u64, kind: u8, regime: u8, v: &[u32])
-    requires { ⌜ (4 + sizeOf spec.callFields map ≤ length (now part)) × (length (now v) ≡ 20) ⌝ }
-    ensures { λ _. ⌜ now (part .exit) ≡ putAt (now (part .entry)) 0 (bytesOf 4 map ++ bodyOf spec.callFields map (kind ∷ regime ∷ now (v .entry))) ⌝ }
+    requires { (4 + size_of spec.call_fields map ≤ length part.old) × (length v.now ≡ 20) }
+    ensures { part.new ≡ put_at part.old 0 (bytes_of 4 map ++ body_of spec.call_fields map (kind ∷ regime ∷ v.now)) }
 {
     write_number(part, 4, map);
     let second = write_byte(part, 4, map, kind);
@@ -358,7 +332,7 @@ fn write_fields(part: &mut [u8], map: u64, kind: u8, regime: u8, v: &[u32])
 }
 
 pub fn write_call(out: &mut [u8], at: usize, call: Call) -> Written
-    ensures { λ r. ⌜ (r ≡ answerOf (now (out .entry)) at (spec.callRecord call)) × (now (out .exit) ≡ bufferOf (now (out .entry)) at (spec.callRecord call)) ⌝ }
+    ensures { (result ≡ answer_of out.old at (spec.call_record call)) × (out.new ≡ buffer_of out.old at (spec.call_record call)) }
 {
     let r = record_of(call);
     let map = r.map;

@@ -1,31 +1,22 @@
 // The configuration record: a 5-byte map, bit n-1 for field n, then fields.
-use config_numbers::bits_of;
-use config_numbers::config_of_bits;
-use config_numbers::default_bits;
-use fields::Cursor;
-use fields::Written;
-use fields::bytes::read_number;
-use fields::bytes::write_number;
-use fields::changed;
-use fields::count;
-use fields::read_values;
-use fields::write_values;
+ghost use Rattle.std.specs.Prelude.{◌≡◌, ◌++◌, ◌≤◌, ◌<◌, ◌+◌, ◌*◌, ◌^◌, length, replicate};
+ghost use Rattle.laws.specs.Config.{default};
+ghost use Rattle.fields.specs.Bytes.{bytes_of, put_at};
+ghost use Rattle.fields.specs.Fields.{ones, map_of, body_of, number_fields};
+ghost use Rattle.fields.specs.Numbers.{floats_of, bits_of};
+ghost use Rattle.records.specs.Config.{config_fields, read_config, config_record};
+ghost use Rattle.fields.specs.Writing.{answer_of, buffer_of};
+
+use config_numbers::{bits_of, config_of_bits, default_bits};
+use fields::bytes::{read_number, write_number};
+use fields::{Cursor, Written, changed, count, read_values, write_values};
 use laws::config::PlaneGuidanceConfig;
-ghost use mathlib.Core.Path.{_≡_};
-ghost use mathlib.Core.List.{_++_};
-ghost use Prim.Native.Nat.{_≤_, _<_, _+_, _*_, _^_};
-ghost use lib.ListN.{length, replicate};
-ghost use Rattle·laws.specs.Config.{default};
-ghost use Rattle·fields.specs.Bytes.{bytesOf, putAt};
-ghost use Rattle·fields.specs.Fields.{ones, mapOf, bodyOf, numberFields};
-ghost use Rattle·fields.specs.Numbers.{floatsOf, bitsOf};
-ghost use Rattle·records·specs.specs.Config.{configFields, readConfig, configRecord};
-ghost use Rattle·fields.specs.Writing.{answerOf, bufferOf};
 
 // Bit n-1 of the map is field n; from this one on no bit is named.
 const FIRST_UNNAMED: u64 = 1 << 33;
 
 // What the reader answers: the configuration and the place after the record, or the refusal's number.
+#[derive(Clone, Copy)]
 pub enum ReadConfig {
     Read {
         config: PlaneGuidanceConfig,
@@ -35,7 +26,7 @@ pub enum ReadConfig {
 }
 
 pub fn read_config(s: &[u8], at: usize) -> ReadConfig
-    ensures { λ r. ⌜ r ≡ readConfig (now (s .entry)) at ⌝ }
+    ensures { result ≡ read_config s.now at }
 {
     if s.len() < at {
         return ReadConfig::Refused(5);
@@ -60,14 +51,14 @@ pub fn read_config(s: &[u8], at: usize) -> ReadConfig
 
 // The map of the numbers that are written: those whose bits are not the default's.
 fn config_map(v: [u32; 33]) -> u64
-    ensures { λ r. ⌜ (r ≡ mapOf configFields (replicate 33 0) v) × (r < 2 ^ 33) ⌝ }
+    ensures { (result ≡ map_of config_fields (replicate 33 0) v) × (result < 2 ^ 33) }
 {
     let missing = default_bits();
     changed(&v, &missing)
 }
 
 pub fn write_config(out: &mut [u8], at: usize, c: PlaneGuidanceConfig) -> Written
-    ensures { λ r. ⌜ (r ≡ answerOf (now (out .entry)) at (configRecord c)) × (now (out .exit) ≡ bufferOf (now (out .entry)) at (configRecord c)) ⌝ }
+    ensures { (result ≡ answer_of out.old at (config_record c)) × (out.new ≡ buffer_of out.old at (config_record c)) }
 {
     let v = bits_of(c);
     let map = config_map(v);
@@ -84,8 +75,8 @@ pub fn write_config(out: &mut [u8], at: usize, c: PlaneGuidanceConfig) -> Writte
 
 // Writes a map of five bytes and the numbers that stand in it.
 fn write_fields(part: &mut [u8], map: u64, v: &[u32])
-    requires { ⌜ 5 + 4 * ones (length (now v)) map ≤ length (now part) ⌝ }
-    ensures { λ _. ⌜ now (part .exit) ≡ putAt (now (part .entry)) 0 (bytesOf 5 map ++ bodyOf (numberFields (now (v .entry))) map (now (v .entry))) ⌝ }
+    requires { 5 + 4 * ones (length v.now) map ≤ length part.old }
+    ensures { part.new ≡ put_at part.old 0 (bytes_of 5 map ++ body_of (number_fields v.now) map v.now) }
 {
     write_number(part, 5, map);
     write_values(part, 5, map, v);

@@ -1,16 +1,16 @@
 // Reads the records of data/entries, writes what was read, and prints a line for each. stdout has the lines that the oracle
 // gives for the same entries: tools/vectors/records.py makes both files and says what an entry is.
+#![tactic(auto)]
+
+ghost use Rattle.std.specs.Prelude.{◌≤◌};
+
 use fields::Written;
 use laws::config::PlaneGuidanceConfig;
-use libc::STDOUT_FILENO;
-use records::call::Call;
-use records::call::ReadCall;
-use records::call::read_call;
+use records::call::{Call, ReadCall, read_call};
 use records::call_writer::write_call;
-use records::config::ReadConfig;
-use records::config::read_config;
-use records::config::write_config;
-ghost use Prim.Native.Nat.{_≤_};
+use records::config::{ReadConfig, read_config, write_config};
+use std::io::{ErrorKind, Read, Write};
+use std::{fs, io};
 
 // What stands in a buffer before a record is written.
 const FILL: u8 = 165;
@@ -25,7 +25,7 @@ fn place_of(b: u8) -> usize {
 
 // A byte as a number.
 fn wide(b: u8) -> usize
-    ensures { λ r. ⌜ r ≤ 255 ⌝ }
+    ensures { result ≤ 255 }
 {
     b as usize
 }
@@ -36,48 +36,50 @@ fn digit(b: u8) -> u8 {
     if n < 10 { 48 + n } else { 87 + n }
 }
 
-fn print_hex(s: &[u8]) {
+fn print_hex<R: Print>(rt: &R, s: &[u8]) -> io::Result<()> {
     let mut i = 0;
     while i < s.len() {
         let b = s[i];
         let pair = [digit(b / 16), digit(b)];
-        io::write_all(STDOUT_FILENO, &pair);
+        io::writer(rt).write_all(&pair)?;
         i += 1;
     }
+    Ok(())
 }
 
-fn print_refused(r: u8) {
-    io::write_all(STDOUT_FILENO, b" refused ");
-    io::print_decimal(STDOUT_FILENO, r as u64);
+fn print_refused<R: Print>(rt: &R, r: u8) -> io::Result<()> {
+    print!(rt; " refused {r}")
 }
 
-fn print_read(next: usize) {
-    io::write_all(STDOUT_FILENO, b" read ");
-    io::print_decimal(STDOUT_FILENO, next as u64);
+fn print_read<R: Print>(rt: &R, next: usize) -> io::Result<()> {
+    print!(rt; " read {next}")
 }
 
-fn print_written(w: Written) {
+fn print_written<R: Print>(rt: &R, w: Written) -> io::Result<()> {
     match w {
-        Written::Next(n) => {
-            io::write_all(STDOUT_FILENO, b" wrote ");
-            io::print_decimal(STDOUT_FILENO, n as u64);
-        }
-        Written::Refused(r) => print_refused(r),
+        Written::Next(n) => print!(rt; " wrote {n}")?,
+        Written::Refused(r) => print_refused(rt, r)?,
     }
-    io::write_all(STDOUT_FILENO, b" ");
+    print!(rt; " ")
 }
 
-fn put_call(out: &mut [u8], to: usize, call: Call) {
-    print_written(write_call(out, to, call));
-    print_hex(out);
+fn put_call<R: Print>(rt: &R, out: &mut [u8], to: usize, call: Call) -> io::Result<()> {
+    print_written(rt, write_call(out, to, call))?;
+    print_hex(rt, out)
 }
 
-fn put_config(out: &mut [u8], to: usize, config: PlaneGuidanceConfig) {
-    print_written(write_config(out, to, config));
-    print_hex(out);
+fn put_config<R: Print>(
+    rt: &R,
+    out: &mut [u8],
+    to: usize,
+    config: PlaneGuidanceConfig,
+) -> io::Result<()> {
+    print_written(rt, write_config(out, to, config))?;
+    print_hex(rt, out)
 }
 
 // What is tried of an entry: n bytes of s are read from a place, and what they give is written into room bytes of out.
+#[derive(Clone, Copy)]
 struct Entry {
     from: usize,
     to: usize,
@@ -85,60 +87,63 @@ struct Entry {
     room: usize,
 }
 
-fn try_call(e: Entry, s: &[u8], out: &mut [u8]) {
+fn try_call<R: Print>(rt: &R, e: Entry, s: &[u8], out: &mut [u8]) -> io::Result<()> {
     let n = e.n;
     let room = e.room;
     if s.len() < n {
-        return;
+        return Ok(());
     }
     if out.len() < room {
-        return;
+        return Ok(());
     }
     let r = read_call(&s[..n], e.from);
     match r {
-        ReadCall::Refused(number) => print_refused(number),
+        ReadCall::Refused(number) => print_refused(rt, number),
         ReadCall::Read { call, next } => {
-            print_read(next);
-            put_call(&mut out[..room], e.to, call);
+            print_read(rt, next)?;
+            put_call(rt, &mut out[..room], e.to, call)
         }
     }
 }
 
-fn try_config(e: Entry, s: &[u8], out: &mut [u8]) {
+fn try_config<R: Print>(rt: &R, e: Entry, s: &[u8], out: &mut [u8]) -> io::Result<()> {
     let n = e.n;
     let room = e.room;
     if s.len() < n {
-        return;
+        return Ok(());
     }
     if out.len() < room {
-        return;
+        return Ok(());
     }
     let r = read_config(&s[..n], e.from);
     match r {
-        ReadConfig::Refused(number) => print_refused(number),
+        ReadConfig::Refused(number) => print_refused(rt, number),
         ReadConfig::Read { config, next } => {
-            print_read(next);
-            put_config(&mut out[..room], e.to, config);
+            print_read(rt, next)?;
+            put_config(rt, &mut out[..room], e.to, config)
         }
     }
 }
 
 // Reads n bytes; false where the file has fewer.
-fn read_bytes(file: i32, room: &mut [u8], n: usize) -> bool {
+fn read_bytes<F: Read>(file: &mut F, room: &mut [u8], n: usize) -> io::Result<bool> {
     if room.len() < n {
-        return false;
+        return Ok(false);
     }
-    let got = io::read_full(file, &mut room[..n]);
-    got == n
+    match file.read_exact(&mut room[..n]) {
+        Ok(()) => Ok(true),
+        Err(e) if e.kind() == ErrorKind::UnexpectedEof => Ok(false),
+        Err(e) => Err(e),
+    }
 }
 
 // Reads an entry and tries it; false where the file has no whole one left.
-fn try_entry(file: i32, number: u64) -> bool {
+fn try_entry<R: Print, F: Read>(rt: &R, file: &mut F, number: u64) -> io::Result<bool> {
     let mut head = [0u8; 5];
     let mut s = [0u8; 256];
     let mut out = [FILL; 256];
-    if !read_bytes(file, &mut head, 5) {
-        return false;
+    if !read_bytes(file, &mut head, 5)? {
+        return Ok(false);
     }
     let e = Entry {
         from: place_of(head[1]),
@@ -146,29 +151,31 @@ fn try_entry(file: i32, number: u64) -> bool {
         n: wide(head[4]),
         room: wide(head[3]),
     };
-    if !read_bytes(file, &mut s, e.n) {
-        return false;
+    if !read_bytes(file, &mut s, e.n)? {
+        return Ok(false);
     }
-    io::print_decimal(STDOUT_FILENO, number);
+    print!(rt; "{number}")?;
     if head[0] == 0 {
-        try_call(e, &s, &mut out);
+        try_call(rt, e, &s, &mut out)?;
     } else {
-        try_config(e, &s, &mut out);
+        try_config(rt, e, &s, &mut out)?;
     }
-    io::write_all(STDOUT_FILENO, b"\n");
-    true
+    println!(rt)?;
+    Ok(true)
 }
 
-fn main() {
-    let path = b"entries";
-    let file = os::open_read(path);
-    if file < 0 {
-        os::fail(path);
-        return;
-    }
+fn main(rt: HostRuntime) -> io::Result<()> {
+    let path = "entries";
+    let mut file = match fs::open(&rt, path) {
+        Ok(file) => file,
+        Err(e) => {
+            eprintln!(rt; "{path}: {e}")?;
+            return Ok(());
+        }
+    };
     let mut number: u64 = 1;
-    while number < 100000 && try_entry(file, number) {
+    while number < 100000 && try_entry(&rt, &mut file, number)? {
         number += 1;
     }
-    libc::close(file);
+    Ok(())
 }

@@ -1,29 +1,28 @@
 -- A record is read from its own bytes, wherever it stands and whatever follows it. Assumes nothing.
-use mathlib.Core.Path.{_≡_, refl, sym, ap, _∙_}
+use mathlib.Core.Path.{◌≡◌, refl, sym}
 use mathlib.Core.Bool.{Bool, true, false, cond, not}
-use mathlib.Core.List.{List, [], _∷_, _++_}
-use Prim.Native.Nat.{ℕ, zero, suc, _+_, _*_, _/_, _%_, _≤_}
+use mathlib.Core.List.{List}
+use Prim.Native.Nat.{ℕ, ◌+◌, ◌/◌, ◌≤◌}
 use native.Mathlib.Omega.{arith}
 use native.Mathlib.Nat.{zero-add}
 use borrow.Author.Tests.{leb-true}
 use lib.Dec.{leb}
-use lib.ListN.{length, drop, take, getD}
+use lib.ListN.{length, drop, take, get_or}
 use lib.Seq.{drop-drop}
-use Rattle·laws.specs.declared.config.PlaneGuidanceConfig.{PlaneGuidanceConfig}
-use Rattle·fields.specs.Bytes.{numberAt, hasBytes}
-use Rattle·fields.specs.Fields.{ones, named, sizeOf, valuesAt}
-use Rattle·fields.proofs.Window.{same-map, same-room, same-values, room-at}
-use Rattle·fields.specs.Numbers.{floatsOf}
-use Rattle·fields.proofs.FieldLaw.{ones-le}
-use Rattle·records.specs.Config.{configFields, readConfig}
-use Rattle·records.specs.Call.{callFields, complete, unknown, regimeOf, callAt, readCall}
-use Rattle·records.proofs.CallLaw as call-law
-use Rattle·records.proofs.ConfigLaw as config-law
-use Rattle·records.specs.declared.call.Call.{Call}
-use Rattle·records.specs.declared.call.ReadCall.{ReadCall}
-use Rattle·records.specs.declared.call.ReadCall.the-variants.{Read, Refused}
-use Rattle·records.specs.declared.config.ReadConfig.{ReadConfig}
-use Rattle·records.specs.declared.config.ReadConfig.the-variants as config
+use Rattle.laws.specs.declared.config.PlaneGuidanceConfig.{PlaneGuidanceConfig}
+use Rattle.fields.specs.Bytes.{number_at, has_bytes}
+use Rattle.fields.specs.Fields.{named, size_of, values_at}
+use Rattle.fields.proofs.Window.{same_map, same_room, same_values, room_at}
+use Rattle.fields.specs.Numbers.{floats_of}
+use Rattle.fields.proofs.FieldLaw.{ones_le}
+use Rattle.records.specs.Config.{config_fields, read_config}
+use Rattle.records.specs.Call.{call_fields, complete, unknown, regime_of, call_at, read_call}
+use Rattle.records.proofs.CallLaw as call-law
+use Rattle.records.proofs.ConfigLaw as config-law
+use Rattle.records.specs.declared.call.Call.{Call}
+use Rattle.records.specs.declared.call.ReadCall.{ReadCall}
+use Rattle.records.specs.declared.call.ReadCall.TheVariants.{Read, Refused}
+use Rattle.records.specs.declared.config.ReadConfig.TheVariants as config
 
 -- ---- calls
 
@@ -32,15 +31,15 @@ abbrev pub moved : ℕ → ReadCall → ReadCall
 moved at (Refused r) = Refused r
 moved at (Read k n) = Read k (at + n)
 
-pub call-at : (s : List ℕ) (at : ℕ) → at ≤ length s → readCall s at ≡ moved at (readCall (drop at s) 0)
-unfolding readCall
-call-at s at h =
-    let map = numberAt 4 (drop at s) in
-    let size = 4 + sizeOf callFields map in
-    let values = valuesAt callFields map (drop 4 (drop at s)) in
-    rw (room-at s at 4 h, room-at s at size h, ← drop-drop 4 at s)
-    (go (hasBytes (drop at s) 0 4) (complete map) (hasBytes (drop at s) 0 size) (unknown (getD values 0 0) (getD values 1 0))
-    (callAt (getD values 0 0) (regimeOf (getD values 1 0)) map (floatsOf (drop 2 values))) size)
+pub call_at_lem : (s : List ℕ) (at : ℕ) → at ≤ length s → read_call s at ≡ moved at (read_call (drop at s) 0)
+unfolding read_call
+call_at_lem s at h =
+    let map = number_at 4 (drop at s) in
+    let size = 4 + size_of call_fields map in
+    let values = values_at call_fields map (drop 4 (drop at s)) in
+    rw (room_at s at 4 h, room_at s at size h, ← drop-drop 4 at s)
+    (go (has_bytes (drop at s) 0 4) (complete map) (has_bytes (drop at s) 0 size) (unknown (get_or values 0 0) (get_or values 1 0))
+    (call_at (get_or values 0 0) (regime_of (get_or values 1 0)) map (floats_of (drop 2 values))) size)
   where
     go : (a b c d : Bool) (k : Call) (n : ℕ)
         → cond (not a) (Refused 5) (cond (not b) (Refused 6) (cond (not c) (Refused 5) (cond d (Refused 7) (Read k (at + n)))))
@@ -52,63 +51,63 @@ call-at s at h =
     go true true true false k n = rw (zero-add n)
 
 -- strings that begin alike, as far as the map demands, are read alike
-pub call-same : (n : ℕ) (s t : List ℕ) → take n s ≡ take n t → 4 + sizeOf callFields (numberAt 4 s) ≤ n → readCall s 0 ≡ readCall t 0
-unfolding readCall
-call-same n s t e h =
+pub call_same : (n : ℕ) (s t : List ℕ) → take n s ≡ take n t → 4 + size_of call_fields (number_at 4 s) ≤ n → read_call s 0 ≡ read_call t 0
+unfolding read_call
+call_same n s t e h =
     let w : 4 ≤ n = omega arith in
-    rw (same-room 4 n s t e w 4 w, same-room 4 n s t e w _ h, same-values 4 n s t e w callFields _ h, same-map 4 n s t e w)
+    rw (same_room 4 n s t e w 4 w, same_room 4 n s t e w _ h, same_values 4 n s t e w call_fields _ h, same_map 4 n s t e w)
 
-pub call-most : (m : ℕ) → sizeOf callFields m ≤ 82
-call-most m = rw (call-law.size-is m) (omega (arith, ones-le 20 (m / 4)))
+pub call_most : (m : ℕ) → size_of call_fields m ≤ 82
+call_most m = rw (call-law.size_is m) (omega (arith, ones_le 20 (m / 4)))
 
 -- what was read lies in the string, and is at most 86 bytes
-pub call-within : (s : List ℕ) (at : ℕ) (k : Call) (next : ℕ) → readCall s at ≡ Read k next
-    → (next ≡ at + (4 + sizeOf callFields (numberAt 4 (drop at s)))) × (next ≤ length s)
-unfolding readCall
-call-within s at k next =
-    let map = numberAt 4 (drop at s) in
-    let values = valuesAt callFields map (drop (at + 4) s) in
-    go (hasBytes s at 4) (complete map) (leb (at + (4 + sizeOf callFields map)) (length s)) (unknown (getD values 0 0) (getD values 1 0)) refl
-    (callAt (getD values 0 0) (regimeOf (getD values 1 0)) map (floatsOf (drop 2 values)))
+pub call_within : (s : List ℕ) (at : ℕ) (k : Call) (next : ℕ) → read_call s at ≡ Read k next
+    → (next ≡ at + (4 + size_of call_fields (number_at 4 (drop at s)))) × (next ≤ length s)
+unfolding read_call
+call_within s at k next =
+    let map = number_at 4 (drop at s) in
+    let values = values_at call_fields map (drop (at + 4) s) in
+    go (has_bytes s at 4) (complete map) (leb (at + (4 + size_of call_fields map)) (length s)) (unknown (get_or values 0 0) (get_or values 1 0)) refl
+    (call_at (get_or values 0 0) (regime_of (get_or values 1 0)) map (floats_of (drop 2 values)))
   where
-    go : (a b c d : Bool) → leb (at + (4 + sizeOf callFields (numberAt 4 (drop at s)))) (length s) ≡ c → (v : Call)
+    go : (a b c d : Bool) → leb (at + (4 + size_of call_fields (number_at 4 (drop at s)))) (length s) ≡ c → (v : Call)
         → cond (not a) (Refused 5) (cond (not b) (Refused 6)
-        (cond (not c) (Refused 5) (cond d (Refused 7) (Read v (at + (4 + sizeOf callFields (numberAt 4 (drop at s))))))))
+        (cond (not c) (Refused 5) (cond d (Refused 7) (Read v (at + (4 + size_of call_fields (number_at 4 (drop at s))))))))
         ≡ Read k next
-        → (next ≡ at + (4 + sizeOf callFields (numberAt 4 (drop at s)))) × (next ≤ length s)
-    go false b c d e v q = let z : _≡_ {A = ℕ} 0 1 = cc in absurd (omega arith)
-    go true false c d e v q = let z : _≡_ {A = ℕ} 0 1 = cc in absurd (omega arith)
-    go true true false d e v q = let z : _≡_ {A = ℕ} 0 1 = cc in absurd (omega arith)
-    go true true true true e v q = let z : _≡_ {A = ℕ} 0 1 = cc in absurd (omega arith)
+        → (next ≡ at + (4 + size_of call_fields (number_at 4 (drop at s)))) × (next ≤ length s)
+    go false b c d e v q = let z : ◌≡◌ {A = ℕ} 0 1 = cc in absurd (omega arith)
+    go true false c d e v q = let z : ◌≡◌ {A = ℕ} 0 1 = cc in absurd (omega arith)
+    go true true false d e v q = let z : ◌≡◌ {A = ℕ} 0 1 = cc in absurd (omega arith)
+    go true true true true e v q = let z : ◌≡◌ {A = ℕ} 0 1 = cc in absurd (omega arith)
     go true true true false e v q =
-        let z : at + (4 + sizeOf callFields (numberAt 4 (drop at s))) ≡ next = cc in
-        (sym z, omega (arith, leb-true (at + (4 + sizeOf callFields (numberAt 4 (drop at s)))) (length s) e))
+        let z : at + (4 + size_of call_fields (number_at 4 (drop at s))) ≡ next = cc in
+        (sym z, omega (arith, leb-true (at + (4 + size_of call_fields (number_at 4 (drop at s)))) (length s) e))
 
 -- ---- the configuration
 
-pub config-same : (n : ℕ) (s t : List ℕ) → take n s ≡ take n t → 5 + sizeOf configFields (numberAt 5 s) ≤ n → readConfig s 0 ≡ readConfig t 0
-unfolding readConfig
-config-same n s t e h =
+pub config_same : (n : ℕ) (s t : List ℕ) → take n s ≡ take n t → 5 + size_of config_fields (number_at 5 s) ≤ n → read_config s 0 ≡ read_config t 0
+unfolding read_config
+config_same n s t e h =
     let w : 5 ≤ n = omega arith in
-    rw (same-room 5 n s t e w 5 w, same-room 5 n s t e w _ h, same-values 5 n s t e w configFields _ h, same-map 5 n s t e w)
+    rw (same_room 5 n s t e w 5 w, same_room 5 n s t e w _ h, same_values 5 n s t e w config_fields _ h, same_map 5 n s t e w)
 
-pub config-most : (m : ℕ) → sizeOf configFields m ≤ 132
-config-most m = rw (config-law.size-is m) (omega (arith, ones-le 33 m))
+pub config_most : (m : ℕ) → size_of config_fields m ≤ 132
+config_most m = rw (config-law.size_is m) (omega (arith, ones_le 33 m))
 
-pub config-within : (s : List ℕ) (c : PlaneGuidanceConfig) (next : ℕ) → readConfig s 0 ≡ config.Read c next
-    → (next ≡ 5 + sizeOf configFields (numberAt 5 s)) × (next ≤ length s)
-unfolding readConfig
-config-within s c next =
-    let map = numberAt 5 s in
-    go (hasBytes s 0 5) (named configFields map) (leb (0 + (5 + sizeOf configFields map)) (length s)) refl _
+pub config_within : (s : List ℕ) (c : PlaneGuidanceConfig) (next : ℕ) → read_config s 0 ≡ config.Read c next
+    → (next ≡ 5 + size_of config_fields (number_at 5 s)) × (next ≤ length s)
+unfolding read_config
+config_within s c next =
+    let map = number_at 5 s in
+    go (has_bytes s 0 5) (named config_fields map) (leb (0 + (5 + size_of config_fields map)) (length s)) refl _
   where
-    go : (a b d : Bool) → leb (0 + (5 + sizeOf configFields (numberAt 5 s))) (length s) ≡ d → (v : PlaneGuidanceConfig)
+    go : (a b d : Bool) → leb (0 + (5 + size_of config_fields (number_at 5 s))) (length s) ≡ d → (v : PlaneGuidanceConfig)
         → cond (not a) (config.Refused 5) (cond (not b) (config.Refused 6)
-        (cond (not d) (config.Refused 5) (config.Read v (0 + (5 + sizeOf configFields (numberAt 5 s)))))) ≡ config.Read c next
-        → (next ≡ 5 + sizeOf configFields (numberAt 5 s)) × (next ≤ length s)
-    go false b d e v q = let z : _≡_ {A = ℕ} 0 1 = cc in absurd (omega arith)
-    go true false d e v q = let z : _≡_ {A = ℕ} 0 1 = cc in absurd (omega arith)
-    go true true false e v q = let z : _≡_ {A = ℕ} 0 1 = cc in absurd (omega arith)
+        (cond (not d) (config.Refused 5) (config.Read v (0 + (5 + size_of config_fields (number_at 5 s)))))) ≡ config.Read c next
+        → (next ≡ 5 + size_of config_fields (number_at 5 s)) × (next ≤ length s)
+    go false b d e v q = let z : ◌≡◌ {A = ℕ} 0 1 = cc in absurd (omega arith)
+    go true false d e v q = let z : ◌≡◌ {A = ℕ} 0 1 = cc in absurd (omega arith)
+    go true true false e v q = let z : ◌≡◌ {A = ℕ} 0 1 = cc in absurd (omega arith)
     go true true true e v q =
-        let z : 0 + (5 + sizeOf configFields (numberAt 5 s)) ≡ next = cc in
-        (omega arith, omega (arith, leb-true (0 + (5 + sizeOf configFields (numberAt 5 s))) (length s) e))
+        let z : 0 + (5 + size_of config_fields (number_at 5 s)) ≡ next = cc in
+        (omega arith, omega (arith, leb-true (0 + (5 + size_of config_fields (number_at 5 s))) (length s) e))

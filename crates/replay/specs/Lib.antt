@@ -1,5 +1,5 @@
--- Document 01, "Records and desk program": what the contracts of `replay` cite. `code` has the code's own steps.
+-- Document 01, "Records and desk program": what the contracts of `replay` cite. `Code` has the code's own steps.
 pub mod Recording
 pub mod Text
 pub mod Sizes
-pub mod code
+pub mod Code

@@ -1,17 +1,13 @@
 -- A recording: "one configuration, then calls". What is read of its bytes. Definitions only.
-use mathlib.Core.Bool.{cond}
-use mathlib.Core.List.{List, [], _∷_}
-use Prim.Native.Nat.{ℕ, zero, suc}
-use lib.Dec.{leb}
-use lib.ListN.{length}
-use Rattle·laws.specs.declared.config.PlaneGuidanceConfig.{PlaneGuidanceConfig}
-use Rattle·records.specs.Config.{readConfig}
-use Rattle·records.specs.Call.{readCall}
-use Rattle·records.specs.declared.config.ReadConfig.{ReadConfig}
-use Rattle·records.specs.declared.config.ReadConfig.the-variants as config
-use Rattle·records.specs.declared.call.Call.{Call}
-use Rattle·records.specs.declared.call.ReadCall.{ReadCall}
-use Rattle·records.specs.declared.call.ReadCall.the-variants as read
+use Rattle.std.specs.Prelude.{cond, List, [], ◌∷◌, ℕ, zero, suc, leb, length}
+use Rattle.laws.specs.declared.config.PlaneGuidanceConfig.{PlaneGuidanceConfig}
+use Rattle.records.specs.Config.{read_config}
+use Rattle.records.specs.Call.{read_call}
+use Rattle.records.specs.declared.config.ReadConfig.{ReadConfig}
+use Rattle.records.specs.declared.config.ReadConfig.TheVariants as config
+use Rattle.records.specs.declared.call.Call.{Call}
+use Rattle.records.specs.declared.call.ReadCall.{ReadCall}
+use Rattle.records.specs.declared.call.ReadCall.TheVariants as read
 
 -- a call, and the place where its record begins
 pub record Recorded : Type 0 where
@@ -27,34 +23,34 @@ pub record Calls : Type 0 where
   pub calls : List Recorded
   pub ending : Ending
 
-abbrev pub noCalls : Ending → Calls
-noCalls e = record { calls = []; ending = e }
+abbrev pub no_calls : Ending → Calls
+no_calls e = record { calls = []; ending = e }
 
-abbrev pub withCall : Recorded → Calls → Calls
-withCall k rest = record { calls = k ∷ rest .calls; ending = rest .ending }
+abbrev pub with_call : Recorded → Calls → Calls
+with_call k rest = record { calls = k ∷ rest.calls; ending = rest.ending }
 
 -- a bad record stops the input; after a call come the calls from the place after its record
-abbrev pub onRead : ℕ → ReadCall → (ℕ → Calls) → Calls
-onRead place (read.Refused r) after = noCalls (stops r)
-onRead place (read.Read k next) after = withCall (record { place = place; call = k }) (after next)
+abbrev pub on_read : ℕ → ReadCall → (ℕ → Calls) → Calls
+on_read place (read.Refused r) after = no_calls (stops r)
+on_read place (read.Read k next) after = with_call (record { place = place; call = k }) (after next)
 
 -- "after call 4,096"
-abbrev pub mostCalls : ℕ
-mostCalls = 4096
+abbrev pub most_calls : ℕ
+most_calls = 4096
 
 -- the calls from a place on, of which n may still come; then number 9, "the desk program has input left"
-unfoldable pub readCalls : ℕ → List ℕ → ℕ → Calls
-readCalls zero s at = cond (leb (length s) at) (noCalls ends) (noCalls (stops 9))
-readCalls (suc n) s at = cond (leb (length s) at) (noCalls ends) (onRead at (readCall s at) (λ (next : ℕ). readCalls n s next))
+unfoldable pub read_calls : ℕ → List ℕ → ℕ → Calls
+read_calls zero s at = cond (leb (length s) at) (no_calls ends) (no_calls (stops 9))
+read_calls (suc n) s at = cond (leb (length s) at) (no_calls ends) (on_read at (read_call s at) (λ (next : ℕ). read_calls n s next))
 
 -- a bad configuration record with its refusal, or a configuration and the calls after it
 pub data Recording : Type 0 where
-  badConfig : ℕ → Recording
+  bad_config : ℕ → Recording
   recorded : PlaneGuidanceConfig → Calls → Recording
 
-abbrev pub onConfig : List ℕ → ReadConfig → Recording
-onConfig s (config.Refused r) = badConfig r
-onConfig s (config.Read c next) = recorded c (readCalls mostCalls s next)
+abbrev pub on_config : List ℕ → ReadConfig → Recording
+on_config s (config.Refused r) = bad_config r
+on_config s (config.Read c next) = recorded c (read_calls most_calls s next)
 
 unfoldable pub recording : List ℕ → Recording
-recording s = onConfig s (readConfig s 0)
+recording s = on_config s (read_config s 0)

@@ -1,28 +1,22 @@
 // Replays a recording into a lent buffer, as the desk program prints it.
+#![tactic(auto)]
+
 pub mod turn;
 
-use crate::turn::call_line;
-use crate::turn::refused_line;
-use crate::turn::stopped_line;
+ghost use Rattle.std.specs.Prelude.{◌≡◌, true, ◌≤◌, ◌+◌, length};
+ghost use Rattle.fields.specs.Bytes.{put_at};
+ghost use Rattle.fields.specs.Writing.{answer_of, buffer_of};
+ghost use Rattle.lines.specs.Line.{text};
+ghost use Rattle.replay.specs.Sizes.{text_room};
+ghost use Rattle.replay.specs.Text.{recording_text};
+ghost use Rattle.replay.specs.Code.Pass.{Prints, calls_room, calls_text};
+
+use crate::turn::{call_line, refused_line, stopped_line};
 use fields::Written;
-use guidance::plane::Created;
-use guidance::plane::PlaneGuidance;
-use lines::Line;
-use lines::put_line;
-use records::call::ReadCall;
-use records::call::read_call;
-use records::config::ReadConfig;
-use records::config::read_config;
-ghost use mathlib.Core.Path.{_≡_};
-ghost use mathlib.Core.Bool.{true};
-ghost use Prim.Native.Nat.{_≤_, _+_};
-ghost use lib.ListN.{length};
-ghost use Rattle·fields.specs.Bytes.{putAt};
-ghost use Rattle·fields.specs.Writing.{answerOf, bufferOf};
-ghost use Rattle·lines.specs.Line.{text};
-ghost use Rattle·replay·specs.specs.Sizes.{textRoom};
-ghost use Rattle·replay·specs.specs.Text.{recordingText};
-ghost use Rattle·replay·specs.specs.code.Pass.{Prints, callsRoom, callsText};
+use guidance::plane::{Created, PlaneGuidance};
+use lines::{Line, put_line};
+use records::call::{ReadCall, read_call};
+use records::config::{ReadConfig, read_config};
 
 // "The desk program has input left after call 4,096".
 const MOST_CALLS: u32 = 4096;
@@ -35,8 +29,8 @@ const TEXT_ROOM: usize = 4097 * LINE_ROOM;
 
 // Prints a line from a place on and answers the place after it, or only measures it: then the buffer is kept.
 fn print(out: &mut [u8], to: usize, write: bool, l: Line) -> usize
-    requires { ⌜ (l .count ≤ 4) × (to ≤ callsRoom) × (write ≡ true → to + length (text l) ≤ length (now out)) ⌝ }
-    ensures { λ r. ⌜ Prints write to (text l) (now (out .entry)) (now (out .exit)) r ⌝ }
+    requires { (l.count ≤ 4) × (to ≤ calls_room) × (write ≡ true → to + length (text l) ≤ length out.old) }
+    ensures { Prints write to (text l) out.old out.new result }
 {
     if write {
         return to + put_line(&mut out[to..], l);
@@ -47,8 +41,8 @@ fn print(out: &mut [u8], to: usize, write: bool, l: Line) -> usize
 
 // Prints or measures the lines of the calls from a place on.
 fn calls(s: &[u8], from: usize, fresh: PlaneGuidance, out: &mut [u8], write: bool) -> usize
-    requires { ⌜ (write ≡ true → length (callsText (now s) from fresh) ≤ length (now out)) ⌝ }
-    ensures { λ r. ⌜ Prints write 0 (callsText (now (s .entry)) from fresh) (now (out .entry)) (now (out .exit)) r ⌝ }
+    requires { write ≡ true → length (calls_text s.now from fresh) ≤ length out.old }
+    ensures { Prints write 0 (calls_text s.now from fresh) out.old out.new result }
 {
     let mut g = fresh;
     let mut at = from;
@@ -82,8 +76,8 @@ fn calls(s: &[u8], from: usize, fresh: PlaneGuidance, out: &mut [u8], write: boo
 
 // Prints or measures the text of a recording.
 fn pass(s: &[u8], out: &mut [u8], write: bool) -> usize
-    requires { ⌜ (write ≡ true → length (recordingText (now s)) ≤ length (now out)) ⌝ }
-    ensures { λ r. ⌜ Prints write 0 (recordingText (now (s .entry))) (now (out .entry)) (now (out .exit)) r ⌝ }
+    requires { write ≡ true → length (recording_text s.now) ≤ length out.old }
+    ensures { Prints write 0 (recording_text s.now) out.old out.new result }
 {
     let read = read_config(s, 0);
     match read {
@@ -100,8 +94,8 @@ fn pass(s: &[u8], out: &mut [u8], write: bool) -> usize
 
 // Prints the text of a recording into a buffer that has room for every text.
 pub fn print_text(s: &[u8], out: &mut [u8]) -> usize
-    requires { ⌜ textRoom ≤ length (now out) ⌝ }
-    ensures { λ r. ⌜ (r ≡ length (recordingText (now (s .entry)))) × (now (out .exit) ≡ putAt (now (out .entry)) 0 (recordingText (now (s .entry)))) ⌝ }
+    requires { text_room ≤ length out.old }
+    ensures { (result ≡ length (recording_text s.now)) × (out.new ≡ put_at out.old 0 (recording_text s.now)) }
 {
     pass(s, out, true)
 }
@@ -109,7 +103,7 @@ pub fn print_text(s: &[u8], out: &mut [u8]) -> usize
 // The text of a recording at the front of a buffer, and the place after it; number 8 where the buffer has too few bytes.
 // For a buffer without room for every text the text is measured first.
 pub fn replay(s: &[u8], out: &mut [u8]) -> Written
-    ensures { λ r. ⌜ (r ≡ answerOf (now (out .entry)) 0 (recordingText (now (s .entry)))) × (now (out .exit) ≡ bufferOf (now (out .entry)) 0 (recordingText (now (s .entry)))) ⌝ }
+    ensures { (result ≡ answer_of out.old 0 (recording_text s.now)) × (out.new ≡ buffer_of out.old 0 (recording_text s.now)) }
 {
     if out.len() < TEXT_ROOM {
         let size = pass(s, out, false);

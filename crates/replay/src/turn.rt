@@ -1,19 +1,17 @@
 // What a recorded call does, and its line.
+ghost use Rattle.std.specs.Prelude.{◌≡◌};
+ghost use Rattle.replay.specs.Text as spec;
+ghost use Rattle.calls.specs.Calls.{as_reply};
+ghost use Rattle.replay.specs.Code.Performed.{call_line};
+
 use calls::Reply;
 use fields::bytes::to_bits;
-use guidance::plane::Answer;
-use guidance::plane::LateralLaw;
-use guidance::plane::PlaneGuidance;
-use guidance::plane::VerticalLaw;
+use guidance::plane::{Answer, LateralLaw, PlaneGuidance, VerticalLaw};
 use laws::types::Setpoint;
-use lines::Line;
-use lines::Word;
+use lines::{Line, Word};
 use records::call::Call;
-ghost use mathlib.Core.Path.{_≡_};
-ghost use Rattle·replay·specs.specs.Text as spec;
-ghost use Rattle·calls.specs.Calls.{asReply};
-ghost use Rattle·replay·specs.specs.code.Performed.{callLine};
 
+#[derive(Clone, Copy)]
 pub struct CallLine {
     pub line: Line,
     pub guidance: PlaneGuidance,
@@ -21,7 +19,7 @@ pub struct CallLine {
 
 // A line of a word and a refusal's number, 0 for none.
 fn number_line(number: u32, first: Word, refusal: u32) -> Line
-    ensures { λ r. ⌜ r ≡ spec.numberLine number first refusal ⌝ }
+    ensures { result ≡ spec.number_line number first refusal }
 {
     Line {
         number,
@@ -34,25 +32,25 @@ fn number_line(number: u32, first: Word, refusal: u32) -> Line
 }
 
 pub fn refused_line(number: u32, refusal: u32) -> Line
-    ensures { λ r. ⌜ r ≡ spec.refusedLine number refusal ⌝ }
+    ensures { result ≡ spec.refused_line number refusal }
 {
     number_line(number, Word::Refused, refusal)
 }
 
 pub fn stopped_line(number: u32, refusal: u32) -> Line
-    ensures { λ r. ⌜ r ≡ spec.stoppedLine number refusal ⌝ }
+    ensures { result ≡ spec.stopped_line number refusal }
 {
     number_line(number, Word::Stopped, refusal)
 }
 
 fn prime_line(number: u32) -> Line
-    ensures { λ r. ⌜ r ≡ spec.primeLine number ⌝ }
+    ensures { result ≡ spec.prime_line number }
 {
     number_line(number, Word::Prime, 0)
 }
 
 fn setpoint_line(number: u32, first: Word, second: Word, setpoint: Setpoint) -> Line
-    ensures { λ r. ⌜ r ≡ spec.setpointLine number first second setpoint ⌝ }
+    ensures { result ≡ spec.setpoint_line number first second setpoint }
 {
     match setpoint {
         Setpoint::Plane {
@@ -96,7 +94,7 @@ fn waypoint_line(
     setpoint: Setpoint,
     cross_track_m: f32,
 ) -> Line
-    ensures { λ r. ⌜ r ≡ spec.waypointLine number first second setpoint «cross_track_m» ⌝ }
+    ensures { result ≡ spec.waypoint_line number first second setpoint cross_track_m }
 {
     match setpoint {
         Setpoint::Plane {
@@ -138,7 +136,7 @@ fn waypoint_line(
 }
 
 fn kind_word(setpoint: Setpoint) -> Word
-    ensures { λ r. ⌜ r ≡ spec.kindWord setpoint ⌝ }
+    ensures { result ≡ spec.kind_word setpoint }
 {
     match setpoint {
         Setpoint::Plane {
@@ -156,7 +154,7 @@ fn kind_word(setpoint: Setpoint) -> Word
 }
 
 fn lateral_word(law: LateralLaw) -> Word
-    ensures { λ r. ⌜ r ≡ spec.lateralWord law ⌝ }
+    ensures { result ≡ spec.lateral_word law }
 {
     match law {
         LateralLaw::Track => Word::Track,
@@ -166,7 +164,7 @@ fn lateral_word(law: LateralLaw) -> Word
 }
 
 fn vertical_word(law: VerticalLaw) -> Word
-    ensures { λ r. ⌜ r ≡ spec.verticalWord law ⌝ }
+    ensures { result ≡ spec.vertical_word law }
 {
     match law {
         VerticalLaw::Energy => Word::Energy,
@@ -176,7 +174,7 @@ fn vertical_word(law: VerticalLaw) -> Word
 }
 
 fn answer_line(number: u32, answer: Answer) -> Line
-    ensures { λ r. ⌜ r ≡ spec.answerLine number answer ⌝ }
+    ensures { result ≡ spec.answer_line number answer }
 {
     match answer {
         Answer::Refused(refusal) => refused_line(number, refusal),
@@ -203,7 +201,7 @@ fn answer_line(number: u32, answer: Answer) -> Line
 }
 
 fn reply_line(number: u32, reply: Reply) -> Line
-    ensures { λ r. ⌜ r ≡ spec.replyLine number (asReply reply) ⌝ }
+    ensures { result ≡ spec.reply_line number (as_reply reply) }
 {
     match reply {
         Reply::Answered(answer) => answer_line(number, answer),
@@ -213,7 +211,7 @@ fn reply_line(number: u32, reply: Reply) -> Line
 
 // A call's line, and the guidance after it.
 pub fn call_line(number: u32, g: PlaneGuidance, call: Call) -> CallLine
-    ensures { λ r. ⌜ r ≡ callLine number g call ⌝ }
+    ensures { result ≡ call_line number g call }
 {
     let done = calls::perform(g, call);
     let guidance = done.guidance;

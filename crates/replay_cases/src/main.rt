@@ -1,11 +1,14 @@
 // Replays the recordings of data/ and compares each text with the oracle's (tools/vectors/replay.py makes both files).
 // Each is replayed into a buffer with room to spare, into one that its text just fills, and into one that is a byte short.
+#![tactic(auto)]
+
+ghost use Rattle.std.specs.Prelude.{◌≡◌, ◌≤◌, ◌+◌, length, IfOk};
+ghost use Rattle.replay.specs.Sizes.{decisive, text_room};
+
+use case_rows::read_full;
 use fields::Written;
-use libc::STDOUT_FILENO;
-ghost use mathlib.Core.Path.{_≡_};
-ghost use Prim.Native.Nat.{_≤_, _+_};
-ghost use lib.ListN.{length};
-ghost use Rattle·replay.specs.Sizes.{decisive, textRoom};
+use std::rt::Files;
+use std::{fs, io};
 
 // What stands in a buffer before a replay.
 const FILL: u8 = 165;
@@ -17,13 +20,13 @@ const RECORDING_ROOM: usize = 137 + 4096 * 86 + 1;
 const TEXT_ROOM: usize = 4097 * 80 + 1;
 
 fn recording_room() -> [u8; RECORDING_ROOM]
-    ensures { λ r. ⌜ decisive ≡ length r ⌝ }
+    ensures { decisive ≡ length result }
 {
     [0u8; RECORDING_ROOM]
 }
 
 fn text_room() -> [u8; TEXT_ROOM]
-    ensures { λ r. ⌜ textRoom + 1 ≡ length r ⌝ }
+    ensures { text_room + 1 ≡ length result }
 {
     [FILL; TEXT_ROOM]
 }
@@ -79,164 +82,178 @@ fn agrees(recording: &[u8], lines: &[u8]) -> bool {
 }
 
 // Reads a file to its end; one that is missing has no bytes.
-fn read_file(path: &[u8], room: &mut [u8]) -> usize
-    ensures { λ r. ⌜ r ≤ length (now (room .entry)) ⌝ }
+fn read_file<R: Files>(rt: &R, path: &str, room: &mut [u8]) -> io::Result<usize>
+    ensures { IfOk result (λ n. n ≤ length room.old) }
 {
-    let file = os::open_read(path);
-    if file < 0 {
-        return 0;
-    }
-    let n = io::read_full(file, room);
-    libc::close(file);
-    n
+    let mut file = match fs::open(rt, path) {
+        Ok(file) => file,
+        Err(_) => return Ok(0),
+    };
+    read_full(&mut file, room)
 }
 
-fn case(name: &[u8], recording: &[u8], lines: &[u8]) {
+fn case<R: Files + Print>(rt: &R, name: &str, recording: &str, lines: &str) -> io::Result<()> {
     let mut s = recording_room();
-    let n = read_file(recording, &mut s);
+    let n = read_file(rt, recording, &mut s)?;
     let mut t = text_room();
-    let m = read_file(lines, &mut t);
-    io::write_all(STDOUT_FILENO, name);
+    let m = read_file(rt, lines, &mut t)?;
+    print!(rt; "{name}")?;
     if agrees(&s[..n], &t[..m]) {
-        io::write_all(STDOUT_FILENO, b" agrees\n");
+        println!(rt; " agrees")
     } else {
-        io::write_all(STDOUT_FILENO, b" differs\n");
+        println!(rt; " differs")
     }
 }
 
-fn cut_configurations() {
-    case(b"empty", b"empty.recording", b"empty.lines");
-    case(b"one_byte", b"one_byte.recording", b"one_byte.lines");
-    case(b"map_cut", b"map_cut.recording", b"map_cut.lines");
+fn cut_configurations<R: Files + Print>(rt: &R) -> io::Result<()> {
+    case(rt, "empty", "empty.recording", "empty.lines")?;
+    case(rt, "one_byte", "one_byte.recording", "one_byte.lines")?;
+    case(rt, "map_cut", "map_cut.recording", "map_cut.lines")?;
     case(
-        b"config_alone",
-        b"config_alone.recording",
-        b"config_alone.lines",
-    );
-    case(b"config_cut", b"config_cut.recording", b"config_cut.lines");
+        rt,
+        "config_alone",
+        "config_alone.recording",
+        "config_alone.lines",
+    )?;
+    case(rt, "config_cut", "config_cut.recording", "config_cut.lines")
 }
 
-fn bad_configurations() {
+fn bad_configurations<R: Files + Print>(rt: &R) -> io::Result<()> {
     case(
-        b"config_unnamed",
-        b"config_unnamed.recording",
-        b"config_unnamed.lines",
-    );
+        rt,
+        "config_unnamed",
+        "config_unnamed.recording",
+        "config_unnamed.lines",
+    )?;
     case(
-        b"config_unnamed_cut",
-        b"config_unnamed_cut.recording",
-        b"config_unnamed_cut.lines",
-    );
+        rt,
+        "config_unnamed_cut",
+        "config_unnamed_cut.recording",
+        "config_unnamed_cut.lines",
+    )?;
     case(
-        b"config_refused_1",
-        b"config_refused_1.recording",
-        b"config_refused_1.lines",
-    );
+        rt,
+        "config_refused_1",
+        "config_refused_1.recording",
+        "config_refused_1.lines",
+    )?;
     case(
-        b"config_refused_23",
-        b"config_refused_23.recording",
-        b"config_refused_23.lines",
-    );
+        rt,
+        "config_refused_23",
+        "config_refused_23.recording",
+        "config_refused_23.lines",
+    )?;
     case(
-        b"config_refused_33",
-        b"config_refused_33.recording",
-        b"config_refused_33.lines",
-    );
+        rt,
+        "config_refused_33",
+        "config_refused_33.recording",
+        "config_refused_33.lines",
+    )
 }
 
-fn crossed_configurations() {
+fn crossed_configurations<R: Files + Print>(rt: &R) -> io::Result<()> {
     case(
-        b"config_refused_34",
-        b"config_refused_34.recording",
-        b"config_refused_34.lines",
-    );
+        rt,
+        "config_refused_34",
+        "config_refused_34.recording",
+        "config_refused_34.lines",
+    )?;
     case(
-        b"config_refused_35",
-        b"config_refused_35.recording",
-        b"config_refused_35.lines",
-    );
+        rt,
+        "config_refused_35",
+        "config_refused_35.recording",
+        "config_refused_35.lines",
+    )?;
     case(
-        b"config_both_crossed",
-        b"config_both_crossed.recording",
-        b"config_both_crossed.lines",
-    );
+        rt,
+        "config_both_crossed",
+        "config_both_crossed.recording",
+        "config_both_crossed.lines",
+    )?;
     case(
-        b"config_equal",
-        b"config_equal.recording",
-        b"config_equal.lines",
-    );
+        rt,
+        "config_equal",
+        "config_equal.recording",
+        "config_equal.lines",
+    )?;
     case(
-        b"config_bad_and_cut",
-        b"config_bad_and_cut.recording",
-        b"config_bad_and_cut.lines",
-    );
+        rt,
+        "config_bad_and_cut",
+        "config_bad_and_cut.recording",
+        "config_bad_and_cut.lines",
+    )?;
     case(
-        b"config_whole",
-        b"config_whole.recording",
-        b"config_whole.lines",
-    );
+        rt,
+        "config_whole",
+        "config_whole.recording",
+        "config_whole.lines",
+    )
 }
 
-fn calls() {
-    case(b"stray_1", b"stray_1.recording", b"stray_1.lines");
-    case(b"stray_3", b"stray_3.recording", b"stray_3.lines");
-    case(b"forms", b"forms.recording", b"forms.lines");
-    case(b"number_4", b"number_4.recording", b"number_4.lines");
-    case(b"cut", b"cut.recording", b"cut.lines");
+fn calls<R: Files + Print>(rt: &R) -> io::Result<()> {
+    case(rt, "stray_1", "stray_1.recording", "stray_1.lines")?;
+    case(rt, "stray_3", "stray_3.recording", "stray_3.lines")?;
+    case(rt, "forms", "forms.recording", "forms.lines")?;
+    case(rt, "number_4", "number_4.recording", "number_4.lines")?;
+    case(rt, "cut", "cut.recording", "cut.lines")
 }
 
-fn bad_kinds() {
-    case(b"kind_7", b"kind_7.recording", b"kind_7.lines");
-    case(b"kind_9_cut", b"kind_9_cut.recording", b"kind_9_cut.lines");
-    case(b"regime_2", b"regime_2.recording", b"regime_2.lines");
-    case(b"no_kind", b"no_kind.recording", b"no_kind.lines");
+fn bad_kinds<R: Files + Print>(rt: &R) -> io::Result<()> {
+    case(rt, "kind_7", "kind_7.recording", "kind_7.lines")?;
+    case(rt, "kind_9_cut", "kind_9_cut.recording", "kind_9_cut.lines")?;
+    case(rt, "regime_2", "regime_2.recording", "regime_2.lines")?;
+    case(rt, "no_kind", "no_kind.recording", "no_kind.lines")
 }
 
-fn bad_maps() {
-    case(b"half_leg", b"half_leg.recording", b"half_leg.lines");
+fn bad_maps<R: Files + Print>(rt: &R) -> io::Result<()> {
+    case(rt, "half_leg", "half_leg.recording", "half_leg.lines")?;
     case(
-        b"other_half_leg",
-        b"other_half_leg.recording",
-        b"other_half_leg.lines",
-    );
-    case(b"unnamed_22", b"unnamed_22.recording", b"unnamed_22.lines");
+        rt,
+        "other_half_leg",
+        "other_half_leg.recording",
+        "other_half_leg.lines",
+    )?;
+    case(rt, "unnamed_22", "unnamed_22.recording", "unnamed_22.lines")?;
     case(
-        b"unnamed_31_cut",
-        b"unnamed_31_cut.recording",
-        b"unnamed_31_cut.lines",
-    );
+        rt,
+        "unnamed_31_cut",
+        "unnamed_31_cut.recording",
+        "unnamed_31_cut.lines",
+    )
 }
 
-fn many_calls() {
-    case(b"calls_4096", b"calls_4096.recording", b"calls_4096.lines");
+fn many_calls<R: Files + Print>(rt: &R) -> io::Result<()> {
+    case(rt, "calls_4096", "calls_4096.recording", "calls_4096.lines")?;
     case(
-        b"calls_4096_and_1_byte",
-        b"calls_4096_and_1_byte.recording",
-        b"calls_4096_and_1_byte.lines",
-    );
-    case(b"calls_4097", b"calls_4097.recording", b"calls_4097.lines");
+        rt,
+        "calls_4096_and_1_byte",
+        "calls_4096_and_1_byte.recording",
+        "calls_4096_and_1_byte.lines",
+    )?;
+    case(rt, "calls_4097", "calls_4097.recording", "calls_4097.lines")?;
     case(
-        b"call_4096_bad",
-        b"call_4096_bad.recording",
-        b"call_4096_bad.lines",
-    );
+        rt,
+        "call_4096_bad",
+        "call_4096_bad.recording",
+        "call_4096_bad.lines",
+    )
 }
 
-fn generated() {
-    case(b"flights_3", b"flights_3.recording", b"flights_3.lines");
-    case(b"ties_4", b"ties_4.recording", b"ties_4.lines");
-    case(b"wild_5", b"wild_5.recording", b"wild_5.lines");
-    case(b"damaged_6", b"damaged_6.recording", b"damaged_6.lines");
-    case(b"damaged_7", b"damaged_7.recording", b"damaged_7.lines");
+fn generated<R: Files + Print>(rt: &R) -> io::Result<()> {
+    case(rt, "flights_3", "flights_3.recording", "flights_3.lines")?;
+    case(rt, "ties_4", "ties_4.recording", "ties_4.lines")?;
+    case(rt, "wild_5", "wild_5.recording", "wild_5.lines")?;
+    case(rt, "damaged_6", "damaged_6.recording", "damaged_6.lines")?;
+    case(rt, "damaged_7", "damaged_7.recording", "damaged_7.lines")
 }
 
-fn main() {
-    cut_configurations();
-    bad_configurations();
-    crossed_configurations();
-    calls();
-    bad_kinds();
-    bad_maps();
-    many_calls();
-    generated();
+fn main(rt: HostRuntime) -> io::Result<()> {
+    cut_configurations(&rt)?;
+    bad_configurations(&rt)?;
+    crossed_configurations(&rt)?;
+    calls(&rt)?;
+    bad_kinds(&rt)?;
+    bad_maps(&rt)?;
+    many_calls(&rt)?;
+    generated(&rt)
 }

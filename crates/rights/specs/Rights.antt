@@ -1,11 +1,9 @@
 -- "The skipper does everything; a deckhand may guide, on a route too, prime and read the mode report; a watcher only reads it."
 -- K12's report all callers may read. Whatever replays records or draws a path acts as the skipper: replay, compaction and path, and
 -- what stands on them, take no caller. Definitions only.
-use Prim.Native.Nat.{ℕ}
-use mathlib.Core.Bool.{Bool, true, false, cond}
-use lib.Dec.{eqb}
-use Rattle·rights·specs.specs.declared.Deed.{Deed}
-use Rattle·rights·specs.specs.declared.Deed.the-variants as deed
+use Rattle.std.specs.Prelude.{ℕ, Bool, true, false, cond, eqb}
+use Rattle.rights.specs.declared.Deed.{Deed}
+use Rattle.rights.specs.declared.Deed.TheVariants as deed
 
 -- who may do a deed
 pub record Row : Type 0 where
@@ -39,7 +37,7 @@ rights deed.Other = row yes no no
 -- callers by number: skipper 0, deckhand 1, watcher 2; any other number has no right
 unfoldable pub may : ℕ → Deed → Bool
 may caller d =
-    cond (eqb caller 0) (rights d .skipper)
-    (cond (eqb caller 1) (rights d .deckhand)
-    (cond (eqb caller 2) (rights d .watcher)
+    cond (eqb caller 0) (rights d).skipper
+    (cond (eqb caller 1) (rights d).deckhand
+    (cond (eqb caller 2) (rights d).watcher
     no))

@@ -1,8 +1,11 @@
 // Who may do what (document 02, K9): the one place that judges a caller's right.
-ghost use mathlib.Core.Path.{_≡_};
-ghost use Rattle·rights·specs.specs.Rights as spec;
+#![tactic(auto)]
+
+ghost use Rattle.std.specs.Prelude.{◌≡◌};
+ghost use Rattle.rights.specs.Rights as spec;
 
 // What is done to a guidance or its route; Other: what no call is.
+#[derive(Clone, Copy)]
 pub enum Deed {
     New,
     Guide,
@@ -18,7 +21,7 @@ pub enum Deed {
 }
 
 fn deckhand_may(deed: Deed) -> bool
-    ensures { λ r. ⌜ r ≡ spec.rights deed .deckhand ⌝ }
+    ensures { result ≡ (spec.rights deed).deckhand }
 {
     match deed {
         Deed::New => false,
@@ -36,7 +39,7 @@ fn deckhand_may(deed: Deed) -> bool
 }
 
 fn watcher_may(deed: Deed) -> bool
-    ensures { λ r. ⌜ r ≡ spec.rights deed .watcher ⌝ }
+    ensures { result ≡ (spec.rights deed).watcher }
 {
     match deed {
         Deed::New => false,
@@ -55,7 +58,7 @@ fn watcher_may(deed: Deed) -> bool
 
 // caller: 0 skipper, 1 deckhand, 2 watcher; any other number has no right.
 pub fn may(caller: u32, deed: Deed) -> bool
-    ensures { λ r. ⌜ r ≡ spec.may caller deed ⌝ }
+    ensures { result ≡ spec.may caller deed }
 {
     if caller == 0 {
         return true;

@@ -1,37 +1,37 @@
 -- Why K9's claim names watchers and forbidden calls: of deckhands it is false, by computation. Assumes nothing.
 use Prim.Native.Nat.{ℕ}
-use mathlib.Core.Path.{_≡_, refl}
-use mathlib.Core.Bool.{Bool, true, false, cond}
-use mathlib.Core.List.{List, [], _∷_}
+use mathlib.Core.Path.{◌≡◌, refl}
+use mathlib.Core.Bool.{Bool, true, false}
+use mathlib.Core.List.{List, [], ◌∷◌}
 use lib.Dec.{eqb}
 use lib.Ieee as Ieee
-use lib.Ieee.{ofBits}
-use Rattle·arithmetic.specs.Constants.{f32, n0, n1}
-use Rattle·arithmetic.specs.Order.{finite}
-use Rattle·laws.specs.Config.{tecsDefault, default}
-use Rattle·laws.specs.Tecs.{reset}
-use Rattle·laws.specs.declared.types.ControlInput.the-variants as Input
-use Rattle·laws.specs.declared.types.FlightRegime.the-variants as Regime
-use Rattle·laws.specs.declared.types.OptionF32.the-variants.{None}
-use Rattle·laws.specs.declared.types.VehicleState.{VehicleState}
-use Rattle·guidance.specs.Plane as Plane
-use Rattle·guidance.specs.Plane.{fresh}
-use Rattle·guidance.specs.declared.plane.ModeRefusal.{ModeRefusal}
-use Rattle·guidance.specs.declared.plane.ModeRefusal.the-variants as Why
-use Rattle·claims.specs.Calls.{guide, perform, unmarked}
-use Rattle·rights.specs.Rights.{may}
-use Rattle·rights_claims·specs.specs.Runs.{answers, marks}
-use Rattle·rights_claims·specs.specs.Sent.{Held, call, mode, Told, forbidden, made, replied, loaded, written, flown, reported, stands, Sent, act, answerTo}
+use lib.Ieee.{of_bits}
+use Rattle.arithmetic.specs.Constants.{n0, n1}
+use Rattle.arithmetic.specs.Order.{finite}
+use Rattle.laws.specs.Config.{tecs_default, default}
+use Rattle.laws.specs.Tecs.{reset}
+use Rattle.laws.specs.declared.types.ControlInput.TheVariants as Input
+use Rattle.laws.specs.declared.types.FlightRegime.TheVariants as Regime
+use Rattle.laws.specs.declared.types.OptionF32.TheVariants.{None}
+use Rattle.laws.specs.declared.types.VehicleState.{VehicleState}
+use Rattle.guidance.specs.Plane as Plane
+use Rattle.guidance.specs.Plane.{fresh}
+use Rattle.guidance.specs.declared.plane.ModeRefusal.{ModeRefusal}
+use Rattle.guidance.specs.declared.plane.ModeRefusal.TheVariants as Why
+use Rattle.claims.specs.Calls.{guide, perform, unmarked}
+use Rattle.rights.specs.Rights.{may}
+use Rattle.rights_claims.specs.Runs.{answers, marks}
+use Rattle.rights_claims.specs.Sent.{Held, call, mode, Told, forbidden, made, replied, loaded, written, flown, reported, stands, Sent, act, answer_to}
 
 start : Held
 start = record { guidance = fresh default; route = record { map = 0; number = 0 }; numbers = [] }
 
-at-rest : VehicleState
-at-rest = record {
-  «position_m» = record { x = n0; y = n0; z = n0 };
-  «velocity_mps» = record { x = n0; y = n0; z = n0 };
-  «roll_rad» = n0;
-  «airspeed_mps» = None;
+at_rest : VehicleState
+at_rest = record {
+  position_m = record { x = n0; y = n0; z = n0 };
+  velocity_mps = record { x = n0; y = n0; z = n0 };
+  roll_rad = n0;
+  airspeed_mps = None;
 }
 
 -- a landing with copter requested, by this caller; then the skipper reads the mode
@@ -39,14 +39,14 @@ landing : ℕ → List Sent
 landing who =
     record {
       caller = who;
-      wants = call (guide n1 Regime.Copter Input.Land at-rest None);
+      wants = call (guide n1 Regime.Copter Input.Land at_rest None);
     } ∷
     record { caller = 0; wants = mode } ∷
     []
 
-isUnsupported : ModeRefusal → Bool
-isUnsupported Why.None = false
-isUnsupported Why.Unsupported = true
+is_unsupported : ModeRefusal → Bool
+is_unsupported Why.None = false
+is_unsupported Why.Unsupported = true
 
 -- whether the last answer is a report of an unsupported mode
 unsupported : List Told → Bool
@@ -57,22 +57,22 @@ unsupported (replied r ∷ rest) = unsupported rest
 unsupported (loaded r ∷ rest) = unsupported rest
 unsupported (written r s ∷ rest) = unsupported rest
 unsupported (flown a ∷ rest) = unsupported rest
-unsupported (reported m ∷ rest) = isUnsupported (m .refusal)
+unsupported (reported m ∷ rest) = is_unsupported m.refusal
 unsupported (stands b ∷ rest) = unsupported rest
 
 -- the report that the skipper gets in the list, and in the list without this caller's calls
 first : ℕ → Bool
-first who = unsupported (answers answerTo start (landing who))
+first who = unsupported (answers answer_to start (landing who))
 
 without : ℕ → Bool
-without who = unsupported (answers answerTo start (unmarked (marks (λ (k : Sent). eqb (k .caller) who) (landing who)) (landing who)))
+without who = unsupported (answers answer_to start (unmarked (marks (λ (k : Sent). eqb k.caller who) (landing who)) (landing who)))
 
 told : List Bool
 told = first 2 ∷ without 2 ∷ first 1 ∷ without 1 ∷ []
 
 -- a watcher's landing changes no report; a deckhand's does
 computed : told ≡ false ∷ false ∷ true ∷ false ∷ []
-unfolding told first without unsupported isUnsupported landing start at-rest answers answerTo act marks unmarked may perform fresh
-    default tecsDefault reset finite Plane.flightMode Plane.guided Plane.obeyed Plane.commanded Plane.cleared Plane.noFormer Ieee.lt Ieee.le
-    Ieee.eq ofBits
+unfolding told first without unsupported is_unsupported landing start at_rest answers answer_to act marks unmarked may perform fresh
+    default tecs_default reset finite Plane.flight_mode Plane.guided Plane.obeyed Plane.commanded Plane.cleared Plane.no_former Ieee.lt Ieee.le
+    Ieee.eq of_bits
 computed = refl

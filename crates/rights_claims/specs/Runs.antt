@@ -1,6 +1,5 @@
 -- A run of calls of any kind: each call gets what the one before it left. Definitions only.
-use mathlib.Core.Bool.{Bool}
-use mathlib.Core.List.{List, [], _∷_}
+use Rattle.std.specs.Prelude.{Bool, List, [], ◌∷◌}
 
 -- what a call gives, and what it leaves
 pub record Step (A : Type 0) (H : Type 0) : Type 0 where
@@ -9,11 +8,11 @@ pub record Step (A : Type 0) (H : Type 0) : Type 0 where
 
 unfoldable pub answers : {K A H : Type 0} → (H → K → Step A H) → H → List K → List A
 answers step h [] = []
-answers step h (k ∷ ks) = step h k .answer ∷ answers step (step h k .left) ks
+answers step h (k ∷ ks) = (step h k).answer ∷ answers step (step h k).left ks
 
 unfoldable pub after : {K A H : Type 0} → (H → K → Step A H) → H → List K → H
 after step h [] = h
-after step h (k ∷ ks) = after step (step h k .left) ks
+after step h (k ∷ ks) = after step (step h k).left ks
 
 -- the calls that a test names
 unfoldable pub marks : {K : Type 0} → (K → Bool) → List K → List Bool

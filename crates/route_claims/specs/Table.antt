@@ -1,21 +1,17 @@
 -- Edge cases of the test, and of loading: one table each. Statements only; proofs/Table.antt computes them.
-use mathlib.Core.Path.{_≡_}
-use mathlib.Core.Bool.{Bool, true, false}
-use mathlib.Core.List.{List, [], _∷_, _++_}
-use Prim.Native.Nat.{ℕ}
-use lib.ListN.{length, replicate}
-use lib.Ieee.{Float, nan}
-use Rattle·arithmetic.specs.Constants.{f32, n0}
-use Rattle·arithmetic.specs.declared.vector.Vec2.{Vec2}
-use Rattle·fields.specs.Fields.{ones}
-use Rattle·route_records.specs.Record.{RouteRead, refused, read, readRoute}
-use Rattle·route_records.specs.Older.{olderReadRoute}
-use Rattle·routes.specs.Route.{pointsOf, meets}
-use Rattle·routes.specs.declared.Point.{Point}
+use Rattle.std.specs.Prelude.{◌≡◌, Bool, true, false, List, [], ◌∷◌, ◌++◌, ℕ, length, replicate, Float}
+use Rattle.std.specs.Float.{nan}
+use Rattle.arithmetic.specs.Constants.{f32, n0}
+use Rattle.arithmetic.specs.declared.vector.Vec2.{Vec2}
+use Rattle.fields.specs.Fields.{ones}
+use Rattle.route_records.specs.Record.{RouteRead, refused, read, read_route}
+use Rattle.route_records.specs.Older.{older_read_route}
+use Rattle.routes.specs.Route.{points_of, meets}
+use Rattle.routes.specs.declared.Point.{Point}
 
 -- a point at the height 0 with the cruise speed 0, and a position
 abbrev pub point : Float → Float → Point
-point north east = record { «north_m» = north; «east_m» = east; «altitude_m» = n0; «cruise_speed_mps» = n0 }
+point north east = record { north_m = north; east_m = east; altitude_m = n0; cruise_speed_mps = n0 }
 
 abbrev pub position : Float → Float → Vec2
 position north east = record { x = north; y = east }
@@ -23,14 +19,14 @@ position north east = record { x = north; y = east }
 abbrev pub hundred : Float
 hundred = f32 0x42c80000  -- 100
 
-abbrev pub hundredBytes : List ℕ
-hundredBytes = 0 ∷ 0 ∷ 200 ∷ 66 ∷ []
+abbrev pub hundred_bytes : List ℕ
+hundred_bytes = 0 ∷ 0 ∷ 200 ∷ 66 ∷ []
 
-abbrev pub minusHundred : Float
-minusHundred = f32 0xc2c80000  -- -100
+abbrev pub minus_hundred : Float
+minus_hundred = f32 0xc2c80000  -- -100
 
-abbrev pub minusZero : Float
-minusZero = f32 0x80000000  -- -0
+abbrev pub minus_zero : Float
+minus_zero = f32 0x80000000  -- -0
 
 abbrev pub infinity : Float
 infinity = f32 0x7f800000
@@ -38,8 +34,8 @@ infinity = f32 0x7f800000
 abbrev pub large : Float
 large = f32 0x7f61b1e6  -- 3e38
 
-abbrev pub minusLarge : Float
-minusLarge = f32 0xff61b1e6  -- -3e38
+abbrev pub minus_large : Float
+minus_large = f32 0xff61b1e6  -- -3e38
 
 -- a radius of 60 m
 abbrev pub radius : Float
@@ -55,26 +51,26 @@ single = point n0 n0 ∷ []
 abbrev pub pair : List Point
 pair = point n0 n0 ∷ point hundred n0 ∷ []
 
-abbrev pub equalPair : List Point
-equalPair = point hundred n0 ∷ point hundred n0 ∷ []
+abbrev pub equal_pair : List Point
+equal_pair = point hundred n0 ∷ point hundred n0 ∷ []
 
-abbrev pub farPair : List Point
-farPair = point minusLarge n0 ∷ point large n0 ∷ []
+abbrev pub far_pair : List Point
+far_pair = point minus_large n0 ∷ point large n0 ∷ []
 
-abbrev pub homePair : List Point
-homePair = point minusHundred minusHundred ∷ point n0 n0 ∷ []
+abbrev pub home_pair : List Point
+home_pair = point minus_hundred minus_hundred ∷ point n0 n0 ∷ []
 
 -- a route with gaps in both maps, bit 0 of the first and bits 0 and 30 of the second: the origin, 100 m north, and 100 m east of that
-abbrev pub gappedRecord : List ℕ
-gappedRecord =
-    1 ∷ 0 ∷ 0 ∷ 128 ∷ 1 ∷ 0 ∷ 0 ∷ 64 ∷ replicate 16 0 ++ (hundredBytes ++ replicate 12 0) ++ (hundredBytes ++ hundredBytes ++ replicate 8 0)
+abbrev pub gapped_record : List ℕ
+gapped_record =
+    1 ∷ 0 ∷ 0 ∷ 128 ∷ 1 ∷ 0 ∷ 0 ∷ 64 ∷ replicate 16 0 ++ (hundred_bytes ++ replicate 12 0) ++ (hundred_bytes ++ hundred_bytes ++ replicate 8 0)
 
-abbrev pub pointsRead : RouteRead → List Point
-pointsRead (refused n) = []
-pointsRead (read r next) = pointsOf (ones 64 (r .map)) (r .numbers)
+abbrev pub points_read : RouteRead → List Point
+points_read (refused n) = []
+points_read (read r next) = points_of (ones 64 r.map) r.numbers
 
 abbrev pub gapped : List Point
-gapped = pointsRead (readRoute gappedRecord 0)
+gapped = points_read (read_route gapped_record 0)
 
 pub record Case : Type 0 where
   pub points : List Point
@@ -90,7 +86,7 @@ cases =
     -- at the exact radius, at the f32 beyond it, at the point
     row single 1 radius n0 true ∷
     row single 1 beyond n0 false ∷
-    row single 1 n0 minusZero true ∷
+    row single 1 n0 minus_zero true ∷
     -- NaN never moves it on: a position that is NaN, at the first point and on a leg
     row single 1 nan n0 false ∷
     row pair 2 n0 nan false ∷
@@ -103,19 +99,19 @@ cases =
     row pair 2 hundred radius true ∷
     row pair 2 (f32 0x42c80001) n0 true ∷
     -- a dot of -0
-    row homePair 2 minusZero minusZero true ∷
+    row home_pair 2 minus_zero minus_zero true ∷
     -- two equal points: a leg of length 0 is passed, wherever the position is finite; 0 times infinity is NaN
-    row equalPair 2 minusHundred minusHundred true ∷
-    row equalPair 2 infinity n0 false ∷
+    row equal_pair 2 minus_hundred minus_hundred true ∷
+    row equal_pair 2 infinity n0 false ∷
     -- a leg that overflows: infinity times 0 is NaN, infinity times what is left passes
-    row farPair 2 large n0 false ∷
-    row farPair 2 infinity n0 true ∷
+    row far_pair 2 large n0 false ∷
+    row far_pair 2 infinity n0 true ∷
     -- gaps in the map, the points in their order: at the first, abeam of the second and short of it, abeam of the third and short of it
     row gapped 1 n0 n0 true ∷
-    row gapped 2 hundred minusHundred true ∷
+    row gapped 2 hundred minus_hundred true ∷
     row gapped 2 n0 hundred false ∷
     row gapped 3 n0 hundred true ∷
-    row gapped 3 hundred minusHundred false ∷
+    row gapped 3 hundred minus_hundred false ∷
     -- one past the last point it stays
     row single 2 n0 n0 false ∷
     row pair 3 hundred n0 false ∷
@@ -123,11 +119,11 @@ cases =
 
 unfoldable pub found : List Case → List Bool
 found [] = []
-found (c ∷ cs) = meets radius (c .points) (c .number) (c .at) ∷ found cs
+found (c ∷ cs) = meets radius c.points c.number c.at ∷ found cs
 
 unfoldable pub wanted : List Case → List Bool
 wanted [] = []
-wanted (c ∷ cs) = c .moves ∷ wanted cs
+wanted (c ∷ cs) = c.moves ∷ wanted cs
 
 abbrev pub TestTable : Type 0
 TestTable = found cases ≡ wanted cases
@@ -136,7 +132,7 @@ TestTable = found cases ≡ wanted cases
 
 abbrev pub outcome : RouteRead → List ℕ
 outcome (refused n) = n ∷ []
-outcome (read r next) = 0 ∷ r .map ∷ length (r .numbers) ∷ next ∷ []
+outcome (read r next) = 0 ∷ r.map ∷ length r.numbers ∷ next ∷ []
 
 -- sixteen bytes of a point, each 0, and the same with the first number NaN or infinite
 abbrev pub still : List ℕ
@@ -165,11 +161,11 @@ stored =
     record { bytes = 1 ∷ 0 ∷ 0 ∷ 64 ∷ still ++ still ++ (7 ∷ []); gives = 0 ∷ 0x40000001 ∷ 8 ∷ 36 ∷ [] } ∷ []
 
 -- a point of each map: bit 0 of the first, bits 0 and 30 of the second; and sixty-two points
-abbrev pub threePoints : List ℕ
-threePoints = 1 ∷ 0 ∷ 0 ∷ 128 ∷ 1 ∷ 0 ∷ 0 ∷ 64 ∷ still ++ still ++ still ++ (7 ∷ [])
+abbrev pub three_points : List ℕ
+three_points = 1 ∷ 0 ∷ 0 ∷ 128 ∷ 1 ∷ 0 ∷ 0 ∷ 64 ∷ still ++ still ++ still ++ (7 ∷ [])
 
-abbrev pub allPoints : List ℕ
-allPoints = 255 ∷ 255 ∷ 255 ∷ 255 ∷ 255 ∷ 255 ∷ 255 ∷ 127 ∷ replicate 992 0
+abbrev pub all_points : List ℕ
+all_points = 255 ∷ 255 ∷ 255 ∷ 255 ∷ 255 ∷ 255 ∷ 255 ∷ 127 ∷ replicate 992 0
 
 -- with bit 31
 abbrev pub long : List Load
@@ -187,27 +183,27 @@ long =
     record { bytes = 1 ∷ 0 ∷ 0 ∷ 128 ∷ 1 ∷ 0 ∷ 0 ∷ 0 ∷ still ++ odd 192; gives = 11 ∷ [] } ∷
     -- an empty first map beside a second; points in both; sixty-two
     record { bytes = 0 ∷ 0 ∷ 0 ∷ 128 ∷ 1 ∷ 0 ∷ 0 ∷ 0 ∷ still; gives = 0 ∷ 0x80000000 ∷ 4 ∷ 24 ∷ [] } ∷
-    record { bytes = threePoints; gives = 0 ∷ 0x2000000080000001 ∷ 12 ∷ 56 ∷ [] } ∷
-    record { bytes = allPoints; gives = 0 ∷ 0x3fffffffffffffff ∷ 248 ∷ 1000 ∷ [] } ∷ []
+    record { bytes = three_points; gives = 0 ∷ 0x2000000080000001 ∷ 12 ∷ 56 ∷ [] } ∷
+    record { bytes = all_points; gives = 0 ∷ 0x3fffffffffffffff ∷ 248 ∷ 1000 ∷ [] } ∷ []
 
 -- bit 31 to the older reader, also where the length is short
-abbrev pub refusedBefore : List Load
-refusedBefore =
+abbrev pub refused_before : List Load
+refused_before =
     record { bytes = 1 ∷ 0 ∷ 0 ∷ 128 ∷ []; gives = 6 ∷ [] } ∷
     record { bytes = 0 ∷ 0 ∷ 0 ∷ 128 ∷ []; gives = 6 ∷ [] } ∷
-    record { bytes = threePoints; gives = 6 ∷ [] } ∷
-    record { bytes = allPoints; gives = 6 ∷ [] } ∷ []
+    record { bytes = three_points; gives = 6 ∷ [] } ∷
+    record { bytes = all_points; gives = 6 ∷ [] } ∷ []
 
 unfoldable pub outcomes : (List ℕ → ℕ → RouteRead) → List Load → List (List ℕ)
 outcomes reader [] = []
-outcomes reader (l ∷ ls) = outcome (reader (l .bytes) 0) ∷ outcomes reader ls
+outcomes reader (l ∷ ls) = outcome (reader l.bytes 0) ∷ outcomes reader ls
 
 unfoldable pub expected : List Load → List (List ℕ)
 expected [] = []
-expected (l ∷ ls) = l .gives ∷ expected ls
+expected (l ∷ ls) = l.gives ∷ expected ls
 
 abbrev pub LoadTable : Type 0
-LoadTable = outcomes readRoute (stored ++ long) ≡ expected (stored ++ long)
+LoadTable = outcomes read_route (stored ++ long) ≡ expected (stored ++ long)
 
 abbrev pub OlderTable : Type 0
-OlderTable = outcomes olderReadRoute (stored ++ refusedBefore) ≡ expected (stored ++ refusedBefore)
+OlderTable = outcomes older_read_route (stored ++ refused_before) ≡ expected (stored ++ refused_before)

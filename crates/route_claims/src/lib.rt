@@ -1,1 +1,2 @@
 // The claims over lists of calls under a route: definitions and proofs, no code.
+#![tactic(auto)]

@@ -1,41 +1,36 @@
 -- The laws of the route record, for every route. Statements only; proofs/RouteBack.antt and Older.antt prove them.
-use mathlib.Core.Path.{_≡_}
-use mathlib.Core.Bool.{true}
-use mathlib.Core.List.{List, [], _∷_, _++_}
-use Prim.Native.Nat.{ℕ, _+_, _-_, _/_, _%_, _≤_, _<_, _^_}
-use lib.ListN.{length, take, drop}
-use lib.Ieee.{Float}
-use Rattle·fields.specs.Fields.{ones}
-use Rattle·fields.specs.Numbers.{AreF32}
-use Rattle·fields.specs.Laws.{Laws}
-use Rattle·fields.specs.declared.Written.the-variants as written
-use Rattle·route_records·specs.specs.declared.Loaded.the-variants as loaded
-use Rattle·route_records·specs.specs.Record.{
+use Rattle.std.specs.Prelude.{◌≡◌, true, List, [], ◌∷◌, ◌++◌, ℕ, ◌+◌, ◌-◌, ◌/◌, ◌%◌, ◌≤◌, ◌<◌, ◌^◌, length, take, drop, Float}
+use Rattle.fields.specs.Fields.{ones}
+use Rattle.fields.specs.Numbers.{AreF32}
+use Rattle.fields.specs.Laws.{Laws}
+use Rattle.fields.specs.declared.Written.TheVariants as written
+use Rattle.route_records.specs.declared.Loaded.TheVariants as loaded
+use Rattle.route_records.specs.Record.{
   Route,
-  numberCount,
-  mapRefusal,
+  number_count,
+  map_refusal,
   joined,
-  allFinite,
+  all_finite,
   refused,
-  readRoute,
+  read_route,
   read,
-  answerTo,
-  bufferTo,
-  routeRecord,
-  writeAnswer,
-  writeBuffer,
+  answer_to,
+  buffer_to,
+  route_record,
+  write_answer,
+  write_buffer,
 }
-use Rattle·route_records·specs.specs.Older.{olderReadRoute, olderRouteRecord}
+use Rattle.route_records.specs.Older.{older_read_route, older_route_record}
 
 -- a route as loading makes it: a map that is not refused, four numbers for each standing point, each finite
 pub record IsRoute (r : Route) : Type 0 where
-  pub map : mapRefusal (r .map) ≡ 0
-  pub long : length (r .numbers) ≡ numberCount (r .map)
-  pub held : AreF32 (r .numbers)
-  pub finite : allFinite (r .numbers) ≡ true
+  pub map : map_refusal r.map ≡ 0
+  pub long : length r.numbers ≡ number_count r.map
+  pub held : AreF32 r.numbers
+  pub finite : all_finite r.numbers ≡ true
 
 abbrev pub RouteLaws : Type 0
-RouteLaws = Laws IsRoute routeRecord readRoute read
+RouteLaws = Laws IsRoute route_record read_route read
 
 unfoldable pub AreBytes : List ℕ → Type 0
 AreBytes [] = Unit {0}
@@ -46,28 +41,28 @@ AreBytes (b ∷ bs) = (b < 256) × AreBytes bs
 pub record RouteKept : Type 0 where
   pub apart : (first second : ℕ) → (joined first second % 2 ^ 31 ≡ first % 2 ^ 31) × (joined first second / 2 ^ 31 ≡ second)
   pub counts : (first second : ℕ) → second < 2 ^ 31 → ones 64 (joined first second) ≡ ones 31 first + ones 31 second
-  pub longest : (r : Route) → IsRoute r → length (routeRecord r) ≤ 1000
-  pub stepped : (s : List ℕ) (at : ℕ) (r : Route) (next : ℕ) → readRoute s at ≡ read r next → next ≤ at + 1000
-  pub reached : (r : Route) × IsRoute r × (length (routeRecord r) ≡ 1000)
-  pub bytes : (s : List ℕ) (at : ℕ) (r : Route) (next : ℕ) → AreBytes s → readRoute s at ≡ read r next → routeRecord r ≡ take (next - at) (drop at s)
+  pub longest : (r : Route) → IsRoute r → length (route_record r) ≤ 1000
+  pub stepped : (s : List ℕ) (at : ℕ) (r : Route) (next : ℕ) → read_route s at ≡ read r next → next ≤ at + 1000
+  pub reached : (r : Route) × IsRoute r × (length (route_record r) ≡ 1000)
+  pub bytes : (s : List ℕ) (at : ℕ) (r : Route) (next : ℕ) → AreBytes s → read_route s at ≡ read r next → route_record r ≡ take (next - at) (drop at s)
 
 -- "Stored routes keep their bytes and meaning": what the older reader accepts, wherever it stands, is the same route with no second map, to
 -- the same place after it, and is written to the bytes that were there, as by the older program.
 pub record StoredKept (s : List ℕ) (at : ℕ) (r : Route) (next : ℕ) : Type 0 where
-  pub same : readRoute s at ≡ read r next
-  pub alone : r .map < 2 ^ 31
-  pub written : routeRecord r ≡ olderRouteRecord r
-  pub bytes : AreBytes s → routeRecord r ≡ take (next - at) (drop at s)
+  pub same : read_route s at ≡ read r next
+  pub alone : r.map < 2 ^ 31
+  pub written : route_record r ≡ older_route_record r
+  pub bytes : AreBytes s → route_record r ≡ take (next - at) (drop at s)
 
 -- "A display with the older program refuses a long route with 6 and shows none of its points": a route with a bit in the second map, whose
 -- record stands anywhere in a buffer, as the writer left it too.
 pub record OlderDisplay : Type 0 where
-  pub stored : (s : List ℕ) (at : ℕ) (r : Route) (next : ℕ) → olderReadRoute s at ≡ read r next → StoredKept s at r next
+  pub stored : (s : List ℕ) (at : ℕ) (r : Route) (next : ℕ) → older_read_route s at ≡ read r next → StoredKept s at r next
   pub long :
-      (s : List ℕ) (at : ℕ) (r : Route) (rest : List ℕ) → 2 ^ 31 ≤ r .map → drop at s ≡ routeRecord r ++ rest → olderReadRoute s at ≡ refused 6
+      (s : List ℕ) (at : ℕ) (r : Route) (rest : List ℕ) → 2 ^ 31 ≤ r.map → drop at s ≡ route_record r ++ rest → older_read_route s at ≡ refused 6
   pub written :
-      (out : List ℕ) (at m : ℕ) (numbers : List Float) (next : ℕ) → 2 ^ 31 ≤ m → writeAnswer out at m numbers ≡ written.Next next
-      → olderReadRoute (writeBuffer out at m numbers) at ≡ refused 6
+      (out : List ℕ) (at m : ℕ) (numbers : List Float) (next : ℕ) → 2 ^ 31 ≤ m → write_answer out at m numbers ≡ written.Next next
+      → older_read_route (write_buffer out at m numbers) at ≡ refused 6
   pub unseen :
-      (s : List ℕ) (at : ℕ) (out : List Float) → olderReadRoute s at ≡ refused 6
-      → (answerTo (olderReadRoute s at) out ≡ loaded.Refused 6) × (bufferTo (olderReadRoute s at) out ≡ out)
+      (s : List ℕ) (at : ℕ) (out : List Float) → older_read_route s at ≡ refused 6
+      → (answer_to (older_read_route s at) out ≡ loaded.Refused 6) × (buffer_to (older_read_route s at) out ≡ out)

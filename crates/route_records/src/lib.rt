@@ -1,21 +1,18 @@
 // The route record: a 4-byte map, bits 0 to 30, whose bit 31 says that a second 4-byte map follows it, then 16 bytes for each standing
 // point: north, east, altitude, cruise speed. A route's map is the two as one, 62 bits; its numbers stand in a buffer that is lent,
 // four a point, in bit order.
+#![tactic(auto)]
+
+ghost use Rattle.std.specs.Prelude.{◌≡◌, ◌++◌, ◌≤◌, ◌+◌, ◌*◌, length, drop};
+ghost use Rattle.std.specs.Float.{binary32};
+ghost use Rattle.std.specs.Float.Ieee.{of_bits};
+ghost use Rattle.fields.specs.Bytes.{number_at, put_at};
+ghost use Rattle.route_records.specs.declared.Loaded.TheVariants as loaded;
+ghost use Rattle.route_records.specs.Record as spec;
+
 use arithmetic::order::is_finite;
-use fields::Written;
-use fields::bytes::from_bits;
-use fields::bytes::read_number;
-use fields::bytes::to_bits;
-use fields::bytes::write_number;
-use fields::count;
-ghost use mathlib.Core.Path.{_≡_};
-ghost use mathlib.Core.List.{_++_};
-ghost use Prim.Native.Nat.{_≤_, _+_, _*_};
-ghost use lib.ListN.{length, drop};
-ghost use lib.Ieee.{binary32, ofBits};
-ghost use Rattle·fields.specs.Bytes.{numberAt, putAt};
-ghost use Rattle·route_records·specs.specs.declared.Loaded.the-variants as loaded;
-ghost use Rattle·route_records·specs.specs.Record as spec;
+use fields::bytes::{from_bits, read_number, to_bits, write_number};
+use fields::{Written, count};
 
 // Bit 31 of the record's first map; as a number, how far the second map's bits stand above the first's in a route's map.
 const SECOND: u64 = 1 << 31;
@@ -24,6 +21,7 @@ const SECOND: u64 = 1 << 31;
 const UNNAMED: u64 = 1 << 62;
 
 // What loading answers: the route's map and the place after the record, or after its maps; or the refusal's number.
+#[derive(Clone, Copy)]
 pub enum Loaded {
     Read { map: u64, next: usize },
     Refused(u8),
@@ -31,7 +29,7 @@ pub enum Loaded {
 
 // What a map says of its route: its refusal, 6 or 10, and how many numbers its points have.
 pub fn map_refusal(map: u64) -> u8
-    ensures { λ r. ⌜ r ≡ spec.mapRefusal map ⌝ }
+    ensures { result ≡ spec.map_refusal map }
 {
     if UNNAMED <= map {
         return 6;
@@ -44,7 +42,7 @@ pub fn map_refusal(map: u64) -> u8
 
 // A map with no second one behind it.
 fn one_map(first: u64, next: usize) -> Loaded
-    ensures { λ r. ⌜ r ≡ spec.oneMap first next ⌝ }
+    ensures { result ≡ spec.one_map first next }
 {
     if first == 0 {
         return Loaded::Refused(10);
@@ -53,8 +51,9 @@ fn one_map(first: u64, next: usize) -> Loaded
 }
 
 // A map and the second one behind it, in which a bit stands.
+#[tactic(auto, unfolding(crate::specs::Record::two_maps))]
 fn two_maps(first: u64, second: u64, next: usize) -> Loaded
-    ensures { λ r. ⌜ r ≡ spec.twoMaps first second next ⌝ }
+    ensures { result ≡ spec.two_maps first second next }
 {
     if SECOND <= second {
         return Loaded::Refused(6);
@@ -70,7 +69,7 @@ fn two_maps(first: u64, second: u64, next: usize) -> Loaded
 
 // The maps at the front of a record: the route's map and the place after them.
 fn read_maps(s: &[u8], at: usize) -> Loaded
-    ensures { λ r. ⌜ r ≡ spec.readMaps (now (s .entry)) at ⌝ }
+    ensures { result ≡ spec.read_maps s.now at }
 {
     if s.len() < at {
         return Loaded::Refused(5);
@@ -92,23 +91,23 @@ fn read_maps(s: &[u8], at: usize) -> Loaded
 
 // How many numbers the standing points have.
 pub fn numbers_of(map: u64) -> usize
-    ensures { λ r. ⌜ (r ≡ spec.numberCount map) × (r ≤ 256) ⌝ }
+    ensures { (result ≡ spec.number_count map) × (result ≤ 256) }
 {
     4 * count(map)
 }
 
 // Number i of those that stand one behind the other.
 fn number_at(part: &[u8], i: usize) -> f32
-    requires { ⌜ 4 * i + 4 ≤ length (now part) ⌝ }
-    ensures { λ r. ⌜ r ≡ ofBits binary32 (numberAt 4 (drop (4 * i) (now (part .entry)))) ⌝ }
+    requires { 4 * i + 4 ≤ length part.now }
+    ensures { result ≡ of_bits binary32 (number_at 4 (drop (4 * i) part.now)) }
 {
     let at = 4 * i;
     from_bits(read_number(&part[at..], 4) as u32)
 }
 
 fn all_finite(part: &[u8], n: usize) -> bool
-    requires { ⌜ 4 * n ≤ length (now part) ⌝ }
-    ensures { λ r. ⌜ r ≡ spec.allFinite (spec.numbersAt n (now (part .entry))) ⌝ }
+    requires { 4 * n ≤ length part.now }
+    ensures { result ≡ spec.all_finite (spec.numbers_at n part.now) }
 {
     let mut i = 0;
     while i < n {
@@ -121,8 +120,8 @@ fn all_finite(part: &[u8], n: usize) -> bool
 }
 
 fn read_numbers(part: &[u8], out: &mut [f32])
-    requires { ⌜ 4 * length (now out) ≤ length (now part) ⌝ }
-    ensures { λ _. ⌜ now (out .exit) ≡ spec.numbersAt (length (now (out .entry))) (now (part .entry)) ⌝ }
+    requires { 4 * length out.old ≤ length part.now }
+    ensures { out.new ≡ spec.numbers_at (length out.old) part.now }
 {
     let mut i = 0;
     while i < out.len() {
@@ -133,7 +132,7 @@ fn read_numbers(part: &[u8], out: &mut [f32])
 
 // Reads the points of a map from a place on: their numbers go to the front of `out`, whose other numbers are kept.
 fn load_numbers(s: &[u8], from: usize, map: u64, out: &mut [f32]) -> Loaded
-    ensures { λ r. ⌜ (r ≡ spec.answerTo (spec.readPoints (loaded.Read map from) (now (s .entry))) (now (out .entry))) × (now (out .exit) ≡ spec.bufferTo (spec.readPoints (loaded.Read map from) (now (s .entry))) (now (out .entry))) ⌝ }
+    ensures { (result ≡ spec.answer_to (spec.read_points (loaded.Read map from) s.now) out.old) × (out.new ≡ spec.buffer_to (spec.read_points (loaded.Read map from) s.now) out.old) }
 {
     if s.len() < from {
         return Loaded::Refused(5);
@@ -157,7 +156,7 @@ fn load_numbers(s: &[u8], from: usize, map: u64, out: &mut [f32]) -> Loaded
 
 // Reads a route's record.
 pub fn load_route(s: &[u8], at: usize, out: &mut [f32]) -> Loaded
-    ensures { λ r. ⌜ (r ≡ spec.loadAnswer (now (s .entry)) at (now (out .entry))) × (now (out .exit) ≡ spec.loadBuffer (now (s .entry)) at (now (out .entry))) ⌝ }
+    ensures { (result ≡ spec.load_answer s.now at out.old) × (out.new ≡ spec.load_buffer s.now at out.old) }
 {
     match read_maps(s, at) {
         Loaded::Refused(n) => Loaded::Refused(n),
@@ -166,8 +165,8 @@ pub fn load_route(s: &[u8], at: usize, out: &mut [f32]) -> Loaded
 }
 
 fn write_numbers(part: &mut [u8], from: usize, numbers: &[f32])
-    requires { ⌜ from + 4 * length (now numbers) ≤ length (now part) ⌝ }
-    ensures { λ _. ⌜ now (part .exit) ≡ putAt (now (part .entry)) from (spec.numberBytes (now (numbers .entry))) ⌝ }
+    requires { from + 4 * length numbers.now ≤ length part.old }
+    ensures { part.new ≡ put_at part.old from (spec.number_bytes numbers.now) }
 {
     let mut at = from;
     let mut i = 0;
@@ -180,8 +179,9 @@ fn write_numbers(part: &mut [u8], from: usize, numbers: &[f32])
 }
 
 // How many bytes a route's maps have: a second map is written only when one of its bits stands.
+#[tactic(auto, using(crate::proofs::MapsLaw::one_map_long, crate::proofs::MapsLaw::two_maps_long))]
 fn maps_size(map: u64) -> usize
-    ensures { λ r. ⌜ (r ≡ length (spec.mapsBytes map)) × (r ≤ 8) ⌝ }
+    ensures { (result ≡ length (spec.maps_bytes map)) × (result ≤ 8) }
 {
     if map < SECOND {
         return 4;
@@ -190,8 +190,8 @@ fn maps_size(map: u64) -> usize
 }
 
 fn write_maps(part: &mut [u8], size: usize, map: u64)
-    requires { ⌜ (size ≡ length (spec.mapsBytes map)) × (size ≤ length (now part)) ⌝ }
-    ensures { λ _. ⌜ now (part .exit) ≡ spec.mapsBytes map ++ drop (length (spec.mapsBytes map)) (now (part .entry)) ⌝ }
+    requires { (size ≡ length (spec.maps_bytes map)) × (size ≤ length part.old) }
+    ensures { part.new ≡ spec.maps_bytes map ++ drop (length (spec.maps_bytes map)) part.old }
 {
     if size == 4 {
         write_number(part, 4, map);
@@ -202,8 +202,8 @@ fn write_maps(part: &mut [u8], size: usize, map: u64)
 }
 
 fn write_record(part: &mut [u8], size: usize, map: u64, numbers: &[f32])
-    requires { ⌜ (size ≡ length (spec.mapsBytes map)) × (size + 4 * length (now numbers) ≤ length (now part)) ⌝ }
-    ensures { λ _. ⌜ now (part .exit) ≡ putAt (now (part .entry)) 0 (spec.mapsBytes map ++ spec.numberBytes (now (numbers .entry))) ⌝ }
+    requires { (size ≡ length (spec.maps_bytes map)) × (size + 4 * length numbers.now ≤ length part.old) }
+    ensures { part.new ≡ put_at part.old 0 (spec.maps_bytes map ++ spec.number_bytes numbers.now) }
 {
     write_maps(part, size, map);
     write_numbers(part, size, numbers);
@@ -211,7 +211,7 @@ fn write_record(part: &mut [u8], size: usize, map: u64, numbers: &[f32])
 
 // Writes a route's record from a place on; `numbers` has the route's at its front.
 pub fn write_route(out: &mut [u8], at: usize, map: u64, numbers: &[f32]) -> Written
-    ensures { λ r. ⌜ (r ≡ spec.writeAnswer (now (out .entry)) at map (now (numbers .entry))) × (now (out .exit) ≡ spec.writeBuffer (now (out .entry)) at map (now (numbers .entry))) ⌝ }
+    ensures { (result ≡ spec.write_answer out.old at map numbers.now) × (out.new ≡ spec.write_buffer out.old at map numbers.now) }
 {
     let refusal = map_refusal(map);
     if 0 < refusal {

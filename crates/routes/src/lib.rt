@@ -1,26 +1,20 @@
 // A route flown: each call moves on by at most one point, then flies to the point that is reached.
-use arithmetic::vector::Vec2;
-use arithmetic::vector::dot;
-use arithmetic::vector::norm;
+#![tactic(auto)]
+
+ghost use Rattle.std.specs.Prelude.{◌≡◌, ◌≤◌, ◌+◌, ◌*◌, length};
+ghost use Rattle.fields.specs.Fields.{ones};
+ghost use Rattle.routes.specs.Route as spec;
+
+use arithmetic::vector::{Vec2, dot, norm};
 use fields::count;
-use guidance::plane::Answer;
-use guidance::plane::Guided;
-use guidance::plane::PlaneGuidance;
-use laws::types::ControlInput;
-use laws::types::FlightRegime;
-use laws::types::OptionF32;
-use laws::types::OptionVec2;
-use laws::types::Vec3;
-use laws::types::VehicleState;
-use laws::types::WaypointCommand;
+use guidance::plane::{Answer, Guided, PlaneGuidance};
+use laws::types::{
+    ControlInput, FlightRegime, OptionF32, OptionVec2, Vec3, VehicleState, WaypointCommand,
+};
 use route_records::map_refusal;
-ghost use mathlib.Core.Path.{_≡_};
-ghost use Prim.Native.Nat.{_≤_, _+_, _*_};
-ghost use lib.ListN.{length};
-ghost use Rattle·fields.specs.Fields.{ones};
-ghost use Rattle·routes·specs.specs.Route as spec;
 
 // A point of a route: metres north, east and up, and metres a second.
+#[derive(Clone, Copy)]
 pub struct Point {
     pub north_m: f32,
     pub east_m: f32,
@@ -29,12 +23,14 @@ pub struct Point {
 }
 
 // A route's map, and the number of the point that is flown to. Its points' numbers are lent, four a point.
+#[derive(Clone, Copy)]
 pub struct Route {
     pub map: u64,
     pub number: u32,
 }
 
 // What comes with a route call.
+#[derive(Clone, Copy)]
 pub struct RouteCall {
     pub dt: f32,
     pub regime: FlightRegime,
@@ -43,6 +39,7 @@ pub struct RouteCall {
 }
 
 // The guidance and the route's number after a call, and the call's answer.
+#[derive(Clone, Copy)]
 pub struct Flown {
     pub guidance: PlaneGuidance,
     pub number: u32,
@@ -51,8 +48,8 @@ pub struct Flown {
 
 // Point i of those that stand, the first being 0.
 fn point_at(numbers: &[f32], i: usize) -> Point
-    requires { ⌜ 4 * i + 4 ≤ length (now numbers) ⌝ }
-    ensures { λ r. ⌜ r ≡ spec.pointAt (now (numbers .entry)) i ⌝ }
+    requires { 4 * i + 4 ≤ length numbers.now }
+    ensures { result ≡ spec.point_at numbers.now i }
 {
     let north = 4 * i;
     let east = north + 1;
@@ -67,7 +64,7 @@ fn point_at(numbers: &[f32], i: usize) -> Point
 }
 
 fn place(p: Point) -> Vec2
-    ensures { λ r. ⌜ r ≡ spec.place p ⌝ }
+    ensures { result ≡ spec.place p }
 {
     Vec2 {
         x: p.north_m,
@@ -76,7 +73,7 @@ fn place(p: Point) -> Vec2
 }
 
 fn minus(a: Vec2, b: Vec2) -> Vec2
-    ensures { λ r. ⌜ r ≡ spec.minus a b ⌝ }
+    ensures { result ≡ spec.minus a b }
 {
     Vec2 {
         x: a.x - b.x,
@@ -85,21 +82,21 @@ fn minus(a: Vec2, b: Vec2) -> Vec2
 }
 
 fn north_east(v: Vec3) -> Vec2
-    ensures { λ r. ⌜ r ≡ spec.northEast v ⌝ }
+    ensures { result ≡ spec.north_east v }
 {
     Vec2 { x: v.x, y: v.y }
 }
 
 // Within the loiter radius of the first point; NaN is not.
 fn is_near(p: Point, position: Vec2, radius_m: f32) -> bool
-    ensures { λ r. ⌜ r ≡ spec.isNear p position «radius_m» ⌝ }
+    ensures { result ≡ spec.is_near p position radius_m }
 {
     norm(minus(position, place(p))) <= radius_m
 }
 
 // Abeam of a point or past it, along the leg from the one before; NaN is not.
 fn is_passed(before: Point, p: Point, position: Vec2) -> bool
-    ensures { λ r. ⌜ r ≡ spec.isPassed before p position ⌝ }
+    ensures { result ≡ spec.is_passed before p position }
 {
     let to = place(p);
     let leg = minus(to, place(before));
@@ -109,8 +106,8 @@ fn is_passed(before: Point, p: Point, position: Vec2) -> bool
 
 // The test by which the number rises; n counts from 1 to one past the last point.
 fn meets(numbers: &[f32], points: usize, n: usize, position: Vec2, radius_m: f32) -> bool
-    requires { ⌜ (1 ≤ n) × (1 ≤ points) × (4 * points ≤ length (now numbers)) ⌝ }
-    ensures { λ r. ⌜ r ≡ spec.meets «radius_m» (spec.pointsOf points (now (numbers .entry))) n position ⌝ }
+    requires { (1 ≤ n) × (1 ≤ points) × (4 * points ≤ length numbers.now) }
+    ensures { result ≡ spec.meets radius_m (spec.points_of points numbers.now) n position }
 {
     if n == 1 {
         return is_near(point_at(numbers, 0), position, radius_m);
@@ -123,8 +120,8 @@ fn meets(numbers: &[f32], points: usize, n: usize, position: Vec2, radius_m: f32
 }
 
 fn reached(numbers: &[f32], points: usize, n: usize, position: Vec2, radius_m: f32) -> usize
-    requires { ⌜ (1 ≤ n) × (n ≤ points + 1) × (1 ≤ points) × (points ≤ 64) × (4 * points ≤ length (now numbers)) ⌝ }
-    ensures { λ r. ⌜ (r ≡ spec.reached «radius_m» (spec.pointsOf points (now (numbers .entry))) n position) × (1 ≤ r) × (r ≤ 66) ⌝ }
+    requires { (1 ≤ n) × (n ≤ points + 1) × (1 ≤ points) × (points ≤ 64) × (4 * points ≤ length numbers.now) }
+    ensures { (result ≡ spec.reached radius_m (spec.points_of points numbers.now) n position) × (1 ≤ result) × (result ≤ 66) }
 {
     if meets(numbers, points, n, position, radius_m) {
         return n + 1;
@@ -133,7 +130,7 @@ fn reached(numbers: &[f32], points: usize, n: usize, position: Vec2, radius_m: f
 }
 
 fn fly_to(p: Point, leg: OptionVec2) -> WaypointCommand
-    ensures { λ r. ⌜ r ≡ spec.flyTo p leg ⌝ }
+    ensures { result ≡ spec.fly_to p leg }
 {
     WaypointCommand {
         position_m: place(p),
@@ -145,8 +142,8 @@ fn fly_to(p: Point, leg: OptionVec2) -> WaypointCommand
 
 // The waypoint of a number: at 1 the first point without a leg, one past the last the last point without one.
 fn waypoint_for(numbers: &[f32], points: usize, n: usize) -> WaypointCommand
-    requires { ⌜ (1 ≤ n) × (1 ≤ points) × (4 * points ≤ length (now numbers)) ⌝ }
-    ensures { λ r. ⌜ r ≡ spec.waypointFor (spec.pointsOf points (now (numbers .entry))) n ⌝ }
+    requires { (1 ≤ n) × (1 ≤ points) × (4 * points ≤ length numbers.now) }
+    ensures { result ≡ spec.waypoint_for (spec.points_of points numbers.now) n }
 {
     if n == 1 {
         return fly_to(point_at(numbers, 0), OptionVec2::None);
@@ -162,8 +159,8 @@ fn waypoint_for(numbers: &[f32], points: usize, n: usize) -> WaypointCommand
 
 // A number of 0 counts as 1, one above one past the last point as that.
 fn counted(points: usize, number: u32) -> usize
-    requires { ⌜ points ≤ 64 ⌝ }
-    ensures { λ r. ⌜ (r ≡ spec.counted points number) × (1 ≤ r) × (r ≤ points + 1) ⌝ }
+    requires { points ≤ 64 }
+    ensures { (result ≡ spec.counted points number) × (1 ≤ result) × (result ≤ points + 1) }
 {
     let n = number as usize;
     if n == 0 {
@@ -177,7 +174,7 @@ fn counted(points: usize, number: u32) -> usize
 
 // What lent numbers are refused with as a route: 6 or 10 by the map, 5 where they are fewer than it demands; or 0.
 fn lent_refusal(map: u64, length: usize) -> u8
-    ensures { λ r. ⌜ r ≡ spec.lentRefusal map length ⌝ }
+    ensures { result ≡ spec.lent_refusal map length }
 {
     let refusal = map_refusal(map);
     if 0 < refusal {
@@ -190,7 +187,7 @@ fn lent_refusal(map: u64, length: usize) -> u8
 }
 
 fn is_accepted(answer: Answer) -> bool
-    ensures { λ r. ⌜ r ≡ spec.isAccepted answer ⌝ }
+    ensures { result ≡ spec.is_accepted answer }
 {
     match answer {
         Answer::Refused(n) => n == 0,
@@ -201,7 +198,7 @@ fn is_accepted(answer: Answer) -> bool
 
 // A refused call keeps the number.
 fn settled(kept: u32, wanted: u32, done: Guided) -> Flown
-    ensures { λ r. ⌜ r ≡ spec.settled kept wanted done ⌝ }
+    ensures { result ≡ spec.settled kept wanted done }
 {
     let guidance = done.guidance;
     let answer = done.answer;
@@ -221,7 +218,7 @@ fn settled(kept: u32, wanted: u32, done: Guided) -> Flown
 }
 
 pub fn fly(g: PlaneGuidance, route: Route, numbers: &[f32], call: RouteCall) -> Flown
-    ensures { λ r. ⌜ r ≡ spec.fly g route (now (numbers .entry)) call ⌝ }
+    ensures { result ≡ spec.fly g route numbers.now call }
 {
     let map = route.map;
     let number = route.number;

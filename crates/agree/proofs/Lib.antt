@@ -1,2 +1,0 @@
--- Laws of the program agree.
-pub mod Law

@@ -1,0 +1,2 @@
+-- What the contracts of `compact` cite.
+pub mod Output

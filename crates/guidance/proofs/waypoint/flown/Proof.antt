@@ -1,8 +1,0 @@
-use Rattle·guidance·proofs.proofs.waypoint.flown.Statement.{statement}
-use Rattle·guidance·proofs.proofs.waypoint.flown.Tie as tie
-
-returns : tie.Need-returns
-returns c = rw (c .regime-number .ensures)
-
-pub flown-spec : {M : Type 1} → statement M
-flown-spec = tie.close (tie.spec (λ c κs. tt) returns)

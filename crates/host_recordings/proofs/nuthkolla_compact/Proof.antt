@@ -1,9 +1,0 @@
-use borrow.Author.Needs.{needs}
-use Rattle·host_recordings·proofs.proofs.nuthkolla_compact.Statement.{statement}
-use Rattle·host_recordings·proofs.proofs.nuthkolla_compact.Tie as tie
-
-returns : tie.Need-returns
-returns c = (rw (c .compaction-of .ensures, c .before .before .before .compact .ensures .0), c .before .before .before .compact .ensures .1)
-
-pub nuthkolla-compact-spec : {M : Type 1} → statement M
-nuthkolla-compact-spec = tie.close (tie.spec (λ c κs. tt) (λ c κs. tt) (λ c. search needs) returns)

@@ -1,2 +1,0 @@
--- Laws of the cases.
-pub mod Law
