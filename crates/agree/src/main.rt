@@ -5,20 +5,18 @@
 
 ghost use Rattle.std.specs.Prelude.{◌≤◌};
 ghost use Rattle.std.specs.Counts.{IsPrefixLen};
+ghost use Rattle.input.specs.Reading.{size_read};
 
-use agreement::{Agreement, BOX, agree};
-use input::{Input, input_room, read_from, read_input};
-use lines::{Line, put_decimal, put_line};
-use replay::turn::{refused_line, stopped_line};
+use agreement::{Agreement, Refused, Side, agree};
+use input::{ReadFailed, input_room, read_from, read_input};
+use lines::{LINE_ROOM, Line, put_decimal, put_line};
 use std::fs::File;
 use std::rt::Files;
 
 // Descriptor 3, opened anew by its name, since std reaches no descriptor by its number: a file is read from its start.
 const DISPLAY_INPUT: &str = "/dev/fd/3";
 
-// No line has more bytes, and no number more digits.
-const LINE_ROOM: usize = 80;
-
+// No number has more digits.
 const NUMBER_ROOM: usize = 10;
 
 fn say(rt: &(impl Print + Eprint), bytes: &[u8]) {
@@ -34,78 +32,66 @@ fn say_number(rt: &(impl Print + Eprint), n: u32) {
     say(rt, &text[..k]);
 }
 
-fn say_line(rt: &(impl Print + Eprint), l: Line)
-    requires { l.count ≤ 4 }
-{
+fn say_line(rt: &(impl Print + Eprint), l: Line) {
     let mut text = [0u8; LINE_ROOM];
     let n = put_line(&mut text, l);
     say(rt, &text[..n]);
 }
 
-fn say_whose(rt: &(impl Print + Eprint), whose: u32) {
-    if whose == BOX {
-        say(rt, b"box ");
-    } else {
-        say(rt, b"display ");
+fn say_side(rt: &(impl Print + Eprint), side: Side) {
+    match side {
+        Side::Box => say(rt, b"box "),
+        Side::Display => say(rt, b"display "),
     }
+}
+
+// The numbers of the calls at which two recordings part, 0 where one has no call left.
+fn say_part(rt: &(impl Print + Eprint), box_call: Option<u32>, display_call: Option<u32>) {
+    say(rt, b"part ");
+    say_number(rt, box_call.unwrap_or(0));
+    say(rt, b" ");
+    say_number(rt, display_call.unwrap_or(0));
+    say(rt, b"\n");
 }
 
 fn say_answer(rt: &(impl Print + Eprint), answer: Agreement) {
     match answer {
         Agreement::Agree => say(rt, b"agree\n"),
+        Agreement::PartAtConfig => say_part(rt, None, None),
         Agreement::Part {
             box_call,
             display_call,
-        } => {
-            say(rt, b"part ");
-            say_number(rt, box_call);
-            say(rt, b" ");
-            say_number(rt, display_call);
-            say(rt, b"\n");
-        }
-        Agreement::Refused { whose, field } => {
-            say_whose(rt, whose);
-            say_line(rt, refused_line(0, field));
-        }
-        Agreement::Stopped {
-            whose,
-            number,
-            refusal,
-        } => {
-            say_whose(rt, whose);
-            say_line(rt, stopped_line(number, refusal));
-        }
+        } => say_part(rt, box_call, display_call),
     }
 }
 
+fn say_refused(rt: &(impl Print + Eprint), refused: Refused) {
+    say_side(rt, refused.side);
+    say_line(rt, refused.why.line());
+}
+
 // Reads the display's recording.
-fn read_display(rt: &impl Files, buffer: &mut [u8]) -> Input
-    ensures { IsPrefixLen result.size buffer.new }
+fn read_display(rt: &impl Files, buffer: &mut [u8]) -> Result<usize, ReadFailed>
+    ensures { IsPrefixLen (size_read result) buffer.new }
 {
-    match File::open(rt, DISPLAY_INPUT) {
-        Ok(mut file) => read_from(&mut file, buffer),
-        Err(_) => Input {
-            size: 0,
-            failed: true,
-        },
-    }
+    let mut file = File::open(rt, DISPLAY_INPUT).map_err(|_| ReadFailed { size: 0 })?;
+    read_from(&mut file, buffer)
 }
 
 fn main(rt: HostRuntime) {
     let mut ours = input_room();
-    let got = read_input(&rt, &mut ours);
     // A line that standard error does not take is lost.
-    if got.failed {
+    let Ok(m) = read_input(&rt, &mut ours) else {
         let _ = eprintln!(rt; "agree: standard input cannot be read");
         return;
-    }
+    };
     let mut theirs = input_room();
-    let more = read_display(&rt, &mut theirs);
-    if more.failed {
+    let Ok(n) = read_display(&rt, &mut theirs) else {
         let _ = eprintln!(rt; "agree: descriptor 3 cannot be read");
         return;
+    };
+    match agree(&ours[..m], &theirs[..n]) {
+        Ok(answer) => say_answer(&rt, answer),
+        Err(refused) => say_refused(&rt, refused),
     }
-    let m = got.size;
-    let n = more.size;
-    say_answer(&rt, agree(&ours[..m], &theirs[..n]));
 }

@@ -8,6 +8,7 @@ use borrow.Author.Tests.{eqb-true}
 use lib.Dec.{eqb}
 use lib.ListN.{length, take, replicate}
 use lib.Seq.{take_at}
+use Rattle.std.specs.Prelude.{Some, Result, Ok, Err}
 use Rattle.laws.specs.Config.{validate}
 use Rattle.laws.specs.declared.config.PlaneGuidanceConfig.{PlaneGuidanceConfig}
 use Rattle.guidance.specs.Plane.{fresh}
@@ -19,14 +20,15 @@ use Rattle.replay.proofs.Window.{config_within}
 use Rattle.compaction.specs.Compaction as compaction
 use Rattle.compaction.specs.Compaction.{calls_of, padded, compacted, compacted_calls, bytes_after}
 use Rattle.compaction.specs.Laws.{Shortened}
-use Rattle.compaction.specs.declared.Compacted.{Compacted}
-use Rattle.compaction.specs.declared.Compacted.TheVariants as short
+use Rattle.compaction.specs.declared.BadRecording.{BadRecording}
+use Rattle.compaction.specs.declared.BadRecording.TheVariants as bad
 use Rattle.compaction.proofs.Again.{unmarked_none, marks_again}
 use Rattle.compaction.proofs.Short.{AllRead, all_unmarked, calls_unmarked, Whole, whole}
 use Rattle.compaction.proofs.LawsProof.{Opened, opened, laws as short-laws}
 use Rattle.agreement.specs.Agreement.{same_list, config_values, call_values, Numbered, settings, remaining, part_calls, parted, or_refused, agreement}
 use Rattle.agreement.specs.Laws.{Agree, Read, OneStory, Laws}
 use Rattle.agreement.specs.declared.Agreement.TheVariants as answer
+use Rattle.agreement.specs.declared.Side.TheVariants as side
 use Rattle.agreement.proofs.Same.{same_refl, same_eq}
 use Rattle.agreement.proofs.Values.{config_eq, values_of_calls, values_of_numbered, numbered_values, calls_eq}
 
@@ -39,7 +41,7 @@ part_values [] (y ∷ ys) e = let z : ◌≡◌ {A = ℕ} 0 1 = cc in absurd (om
 part_values (x ∷ xs) [] e = let z : ◌≡◌ {A = ℕ} 0 1 = cc in absurd (omega arith)
 part_values (x ∷ xs) (y ∷ ys) e = go (same_list (call_values x.call) (call_values y.call)) refl e (part_values xs ys)
   where
-    go : (b : Bool) → same_list (call_values x.call) (call_values y.call) ≡ b → cond b (part_calls xs ys) (answer.Part x.number y.number) ≡ answer.Agree
+    go : (b : Bool) → same_list (call_values x.call) (call_values y.call) ≡ b → cond b (part_calls xs ys) (answer.Part (Some x.number) (Some y.number)) ≡ answer.Agree
         → (part_calls xs ys ≡ answer.Agree → values_of_numbered xs ≡ values_of_numbered ys)
         → call_values x.call ∷ values_of_numbered xs ≡ call_values y.call ∷ values_of_numbered ys
     go true q e ih = rw (same_eq (call_values x.call) (call_values y.call) q, ih e)
@@ -68,7 +70,7 @@ unfolding agreement parted
 equal s t = by_box (compacted s (recording s)) refl
   where
     by_values : Read s → Read t → (b : Bool) → same_list (settings (recording s)) (settings (recording t)) ≡ b
-        → cond b (part_calls (remaining (recording s)) (remaining (recording t))) (answer.Part 0 0) ≡ answer.Agree → Equal s t
+        → cond b (part_calls (remaining (recording s)) (remaining (recording t))) (answer.PartAtConfig) ≡ answer.Agree → Equal s t
     by_values p q true e h = record {
       first = p;
       second = q;
@@ -77,22 +79,27 @@ equal s t = by_box (compacted s (recording s)) refl
     }
     by_values p q false e h = let z : ◌≡◌ {A = ℕ} 0 1 = cc in absurd (omega arith)
 
-    by_display : Read s → (c : Compacted) → compacted t (recording t) ≡ c → or_refused 2 c (parted (recording s) (recording t)) ≡ answer.Agree → Equal s t
-    by_display p (short.Length n) e h = by_values p (n, e) (same_list (settings (recording s)) (settings (recording t))) refl h
-    by_display p (short.Refused f) e h = let z : ◌≡◌ {A = ℕ} 0 1 = cc in absurd (omega arith)
-    by_display p (short.Stopped n r) e h = let z : ◌≡◌ {A = ℕ} 0 1 = cc in absurd (omega arith)
+    by_display : Read s → (c : Result ℕ BadRecording) → compacted t (recording t) ≡ c → or_refused side.Display c (Ok (parted (recording s) (recording t))) ≡ Ok answer.Agree → Equal s t
+    by_display p (Ok n) e h =
+        let part : parted (recording s) (recording t) ≡ answer.Agree = cc in
+        by_values p (n, e) (same_list (settings (recording s)) (settings (recording t))) refl part
+    by_display p (Err why) e h = let z : ◌≡◌ {A = ℕ} 0 1 = cc in absurd (omega arith)
 
-    by_box : (c : Compacted) → compacted s (recording s) ≡ c
-        → or_refused 1 c (or_refused 2 (compacted t (recording t)) (parted (recording s) (recording t))) ≡ answer.Agree → Equal s t
-    by_box (short.Length n) e h = by_display (n, e) (compacted t (recording t)) refl h
-    by_box (short.Refused f) e h = let z : ◌≡◌ {A = ℕ} 0 1 = cc in absurd (omega arith)
-    by_box (short.Stopped n r) e h = let z : ◌≡◌ {A = ℕ} 0 1 = cc in absurd (omega arith)
+    by_box : (c : Result ℕ BadRecording) → compacted s (recording s) ≡ c
+        → or_refused side.Box c (or_refused side.Display (compacted t (recording t)) (Ok (parted (recording s) (recording t)))) ≡ Ok answer.Agree → Equal s t
+    by_box (Ok n) e h = by_display (n, e) (compacted t (recording t)) refl h
+    by_box (Err why) e h = let z : ◌≡◌ {A = ℕ} 0 1 = cc in absurd (omega arith)
 
 agrees : (s t : List ℕ) → Equal s t → Agree s t
 unfolding agreement parted
 agrees s t e =
-    rw (e.first.1, e.second.1, e.configs, same_refl (settings (recording t)))
-    (values_part (remaining (recording s)) (remaining (recording t)) e.values)
+    rw (
+      e.first.1,
+      e.second.1,
+      e.configs,
+      same_refl (settings (recording t)),
+      values_part (remaining (recording s)) (remaining (recording t)) e.values,
+    )
 
 -- ---- a recording that is not refused, opened
 
@@ -107,16 +114,16 @@ unfolding compacted
 sound s p = go (recording s) refl p.1
   where
     by_ending : (c : PlaneGuidanceConfig) (ks : List Recorded) (x : Ending) → validate c ≡ 0
-        → recording s ≡ recorded c (record { calls = ks; ending = x }) → compacted_calls s c ks x ≡ short.Length p.0 → Sound s
+        → recording s ≡ recorded c (record { calls = ks; ending = x }) → compacted_calls s c ks x ≡ Ok p.0 → Sound s
     by_ending c ks ends v e h = record { config = c; calls = ks; valid = v; reads = e }
     by_ending c ks (stops r) v e h = let z : ◌≡◌ {A = ℕ} 0 1 = cc in absurd (omega arith)
 
     by_valid : (c : PlaneGuidanceConfig) (calls : Calls) (b : Bool) → eqb (validate c) 0 ≡ b → recording s ≡ recorded c calls
-        → cond b (compacted_calls s c calls.calls calls.ending) (short.Refused (validate c)) ≡ short.Length p.0 → Sound s
+        → cond b (compacted_calls s c calls.calls calls.ending) (Err (bad.InvalidConfig (record { field = validate c }))) ≡ Ok p.0 → Sound s
     by_valid c calls true q e h = by_ending c calls.calls calls.ending (eqb-true (validate c) 0 q) e h
     by_valid c calls false q e h = let z : ◌≡◌ {A = ℕ} 0 1 = cc in absurd (omega arith)
 
-    go : (r : Recording) → recording s ≡ r → compacted s r ≡ short.Length p.0 → Sound s
+    go : (r : Recording) → recording s ≡ r → compacted s r ≡ Ok p.0 → Sound s
     go (bad_config r) e h = let z : ◌≡◌ {A = ℕ} 0 1 = cc in absurd (omega arith)
     go (recorded c calls) e h = by_valid c calls (eqb (validate c) 0) refl e h
 
@@ -140,7 +147,7 @@ module _ {s : List ℕ} (o : Sound s) where
   left_read : AllRead s (unmarked Marks o.calls)
   left_read =
       let w : Whole s most_calls start.next (record { calls = o.calls; ending = ends }) =
-      rw start.are at (whole s most_calls start.next (config_within s o.config start.next start.config).1) in
+      rw start.are at (whole s most_calls start.next (config_within s (record { config = o.config; next = start.next }) start.config).1) in
       all_unmarked Marks w.read
 
   left_is : calls_of (unmarked Marks o.calls) ≡ Left
@@ -189,7 +196,7 @@ transitive s t u h k =
     agrees s u (record { first = e.first; second = f.second; configs = e.configs ∙ f.configs; values = e.values ∙ f.values })
 
 -- the compacted self
-module _ (s : List ℕ) (n : ℕ) (h : compacted s (recording s) ≡ short.Length n) where
+module _ (s : List ℕ) (n : ℕ) (h : compacted s (recording s) ≡ Ok n) where
   from : Sound s
   from = sound s (n, h)
 
@@ -220,7 +227,7 @@ module _ (s : List ℕ) (n : ℕ) (h : compacted s (recording s) ≡ short.Lengt
 
   length_is : length T ≡ n
   unfolding compacted
-  length_is = let z : short.Length (length T) ≡ short.Length n = rw (from.reads, from.valid) at h in cc
+  length_is = let z : Ok (length T) ≡ Ok n = rw (from.reads, from.valid) at h in cc
 
   bytes_are : take n (bytes_after s (recording s)) ≡ T
   unfolding bytes_after padded

@@ -4,8 +4,7 @@ use mathlib.Core.Bool.{Bool, true, false, cond, not}
 use mathlib.Core.List.{List, [], ◌∷◌}
 use Prim.Native.Nat.{ℕ, ◌+◌, ◌-◌, ◌<◌, ◌≤◌}
 use native.Mathlib.Omega.{arith}
-use borrow.Author.Tests.{eq-eqb, ne_eqb}
-use lib.Dec.{eqb}
+use Rattle.std.specs.Prelude.{IfSome, Option, Some, None}
 use Rattle.replay.specs.Recording.{most_calls}
 use Rattle.agreement.specs.Agreement.{Numbered, same_list, call_values, part_calls}
 use Rattle.agreement.specs.declared.Agreement.{Agreement}
@@ -14,97 +13,71 @@ use Rattle.agreement.specs.declared.Place.{Place}
 use Rattle.agreement.specs.declared.Told.{Told}
 use Rattle.agreement.specs.Code.Steps.{told, told_from, Next}
 
-abbrev number : Told → ℕ
-number r = r.place.number
-
 abbrev one : Told → Numbered
 one r = record { number = r.place.number; call = r.call }
-
-from_none : (s : List ℕ) (r : Told) → number r ≡ 0 → told_from s r ≡ []
-unfolding told_from
-from_none s r e = rw (eq-eqb (number r) 0 e)
-
-from_one : (s : List ℕ) (r : Told) → (number r ≡ 0 → ⊥) → told_from s r ≡ one r ∷ told s r.place
-unfolding told_from
-from_one s r h = rw (ne_eqb (number r) 0 h)
 
 part_none : part_calls [] [] ≡ answer.Agree
 unfolding part_calls
 part_none = refl
 
-part_display : (y : Numbered) (ys : List Numbered) → part_calls [] (y ∷ ys) ≡ answer.Part 0 y.number
+part_display : (y : Numbered) (ys : List Numbered) → part_calls [] (y ∷ ys) ≡ answer.Part None (Some y.number)
 unfolding part_calls
 part_display y ys = refl
 
-part_box : (x : Numbered) (xs : List Numbered) → part_calls (x ∷ xs) [] ≡ answer.Part x.number 0
+part_box : (x : Numbered) (xs : List Numbered) → part_calls (x ∷ xs) [] ≡ answer.Part (Some x.number) None
 unfolding part_calls
 part_box x xs = refl
 
 part_both : (x y : Numbered) (xs ys : List Numbered)
-    → part_calls (x ∷ xs) (y ∷ ys) ≡ cond (same_list (call_values x.call) (call_values y.call)) (part_calls xs ys) (answer.Part x.number y.number)
+    → part_calls (x ∷ xs) (y ∷ ys) ≡ cond (same_list (call_values x.call) (call_values y.call)) (part_calls xs ys) (answer.Part (Some x.number) (Some y.number))
 unfolding part_calls
 part_both x y xs ys = refl
 
 -- what holds in each turn: the calls from here on part as those from the first on
-pub record Meeting (s t : List ℕ) (x₀ y₀ x y : Told) : Type 0 where
+pub record Meeting (s t : List ℕ) (x₀ y₀ x y : Option Told) : Type 0 where
   pub is : part_calls (told_from s x) (told_from t y) ≡ part_calls (told_from s x₀) (told_from t y₀)
-  pub most : number x ≤ most_calls
+  pub most : IfSome x (λ p. p.place.number ≤ most_calls)
 
 -- how many calls may still come
-abbrev pub left : Told → ℕ
-left r = cond (eqb (number r) 0) 0 (most_calls + 1 - number r)
+abbrev pub left : Option Told → ℕ
+left None = 0
+left (Some p) = most_calls + 1 - p.place.number
 
-pub meet_starts : (s t : List ℕ) (a : Place) (x y : Told) → Next s a x → Meeting s t x y x y
-meet_starts s t a x y p = record { is = refl; most = p.most }
+number_most : {s : List ℕ} {a : Place} (x : Option Told) → Next s a x → IfSome x (λ p. p.place.number ≤ most_calls)
+number_most None h = tt
+number_most (Some p) h = h.rises.1
+
+pub meet_starts : (s t : List ℕ) (a : Place) (x y : Option Told) → Next s a x → Meeting s t x y x y
+meet_starts s t a x y h = record { is = refl; most = number_most x h }
 
 -- the first calls are those after the places of entry
-pub from_places : {s t : List ℕ} {a b : Place} {x y : Told} → Next s a x → Next t b y → part_calls (told_from s x) (told_from t y) ≡ part_calls (told s a) (told t b)
+pub from_places : {s t : List ℕ} {a b : Place} {x y : Option Told} → Next s a x → Next t b y → part_calls (told_from s x) (told_from t y) ≡ part_calls (told s a) (told t b)
 from_places p q = rw (p.is, q.is)
 
-module _ {s t : List ℕ} {x₀ y₀ x y : Told} (f : Meeting s t x₀ y₀ x y) where
-  abbrev All : Agreement
-  All = part_calls (told_from s x₀) (told_from t y₀)
+module _ {s t : List ℕ} {x₀ y₀ : Option Told} where
+  pub meet_ends : Meeting s t x₀ y₀ None None → answer.Agree ≡ part_calls (told_from s x₀) (told_from t y₀)
+  meet_ends f = sym part_none ∙ f.is
 
-  pub meet_box : (number x ≡ 0 → ⊥) → number y ≡ 0 → answer.Part (number x) 0 ≡ All
-  meet_box h e = sym (rw (from_one s x h, from_none t y e) (part_box (one x) (told s x.place))) ∙ f.is
+  pub meet_display : (q : Told) → Meeting s t x₀ y₀ None (Some q) → answer.Part None (Some q.place.number) ≡ part_calls (told_from s x₀) (told_from t y₀)
+  meet_display q f = sym (part_display (one q) (told t q.place)) ∙ f.is
 
-  pub meet_display : number x ≡ 0 → (number y ≡ 0 → ⊥) → answer.Part 0 (number y) ≡ All
-  meet_display e h = sym (rw (from_none s x e, from_one t y h) (part_display (one y) (told t y.place))) ∙ f.is
+  pub meet_box : (p : Told) → Meeting s t x₀ y₀ (Some p) None → answer.Part (Some p.place.number) None ≡ part_calls (told_from s x₀) (told_from t y₀)
+  meet_box p f = sym (part_box (one p) (told s p.place)) ∙ f.is
 
-  pub meet_ends : number x ≡ 0 → number y ≡ 0 → answer.Agree ≡ All
-  meet_ends e d = sym (rw (from_none s x e, from_none t y d) part_none) ∙ f.is
+  module _ (p q : Told) (f : Meeting s t x₀ y₀ (Some p) (Some q)) where
+    both : cond (same_list (call_values p.call) (call_values q.call)) (part_calls (told s p.place) (told t q.place)) (answer.Part (Some p.place.number) (Some q.place.number)) ≡ part_calls (told_from s x₀) (told_from t y₀)
+    both = sym (part_both (one p) (one q) (told s p.place) (told t q.place)) ∙ f.is
 
-  both : (number x ≡ 0 → ⊥) → (number y ≡ 0 → ⊥)
-      → cond (same_list (call_values x.call) (call_values y.call)) (part_calls (told s x.place) (told t y.place)) (answer.Part (number x) (number y)) ≡ All
-  both h k = sym (rw (from_one s x h, from_one t y k) (part_both (one x) (one y) (told s x.place) (told t y.place))) ∙ f.is
+    pub meet_parts : (r : Bool) → r ≡ same_list (call_values p.call) (call_values q.call) → not r ≡ true
+        → answer.Part (Some p.place.number) (Some q.place.number) ≡ part_calls (told_from s x₀) (told_from t y₀)
+    meet_parts true e h = let z : ◌≡◌ {A = ℕ} 0 1 = cc in absurd (omega arith)
+    meet_parts false e h = rw (sym e) at both
 
-  pub meet_parts : (number x ≡ 0 → ⊥) → (number y ≡ 0 → ⊥) → (r : Bool) → r ≡ same_list (call_values x.call) (call_values y.call) → not r ≡ true
-      → answer.Part (number x) (number y) ≡ All
-  meet_parts h k true e q = let z : ◌≡◌ {A = ℕ} 0 1 = cc in absurd (omega arith)
-  meet_parts h k false e q = rw (sym e) at (both h k)
+    pub meet_turn : (r : Bool) → r ≡ same_list (call_values p.call) (call_values q.call) → not r ≡ false
+        → (v w : Option Told) → Next s p.place v → Next t q.place w → Meeting s t x₀ y₀ v w
+    meet_turn true e h v w n m = record { is = from_places n m ∙ (rw (sym e) at both); most = number_most v n }
+    meet_turn false e h v w n m = let z : ◌≡◌ {A = ℕ} 0 1 = cc in absurd (omega arith)
 
-  pub meet_turn : (number x ≡ 0 → ⊥) → (number y ≡ 0 → ⊥) → (r : Bool) → r ≡ same_list (call_values x.call) (call_values y.call) → not r ≡ false
-      → (v w : Told) → Next s x.place v → Next t y.place w → Meeting s t x₀ y₀ v w
-  meet_turn h k true e q v w p o = record {
-    is = from_places p o ∙ (rw (sym e) at (both h k));
-    most = p.most;
-  }
-  meet_turn h k false e q v w p o = let z : ◌≡◌ {A = ℕ} 0 1 = cc in absurd (omega arith)
-
-  pub meet_less : (number x ≡ 0 → ⊥) → (v : Told) → Next s x.place v → left v < left x
-  meet_less h v p = go (eqb (number v) 0) refl
-    where
-      before : left x ≡ most_calls + 1 - number x
-      before = rw (ne_eqb (number x) 0 h)
-
-      go : (c : Bool) → eqb (number v) 0 ≡ c → left v < left x
-      go true e = rw e (omega (arith, before, f.most))
-      go false e =
-          rw e (omega (
-            arith,
-            before,
-            f.most,
-            p.most,
-            p.rises (λ (z : number v ≡ 0).
-                let u : true ≡ false = sym (eq-eqb (number v) 0 z) ∙ e in let o : ◌≡◌ {A = ℕ} 0 1 = cc in omega arith),
-          ))
+    pub meet_less : (v : Option Told) → Next s p.place v → left v < left (Some p)
+    meet_less None n = omega (arith, f.most)
+    meet_less (Some v) n = omega (arith, f.most, n.rises.0, n.rises.1)

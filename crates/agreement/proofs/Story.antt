@@ -4,15 +4,16 @@ use mathlib.Core.Bool.{Bool, true, false, cond, not}
 use mathlib.Core.List.{List, [], ◌∷◌}
 use Prim.Native.Nat.{ℕ, suc, ◌+◌, ◌-◌, ◌<◌, ◌≤◌}
 use native.Mathlib.Omega.{arith}
-use borrow.Author.Tests.{ne_eqb, leb-true, leb-false}
+use borrow.Author.Tests.{leb-true, leb-false}
 use lib.Dec.{leb}
 use lib.ListN.{length}
+use Rattle.std.specs.Prelude.{Some, None, Ok, Err}
+use Rattle.refusals.specs.declared.Refusal.{Refusal}
+use Rattle.refusals.specs.declared.Refusal.TheVariants as reason
 use Rattle.guidance.specs.declared.plane.PlaneGuidance.{PlaneGuidance}
 use Rattle.claims.specs.Calls.{Outcome, perform, refused, replies, refusals, struck, fell_back, strikes, unmarked}
 use Rattle.records.specs.Call.{read_call}
 use Rattle.records.specs.declared.call.Call.{Call}
-use Rattle.records.specs.declared.call.Call.TheVariants.{Prime}
-use Rattle.records.specs.declared.call.ReadCall.TheVariants as read
 use Rattle.calls.specs.Calls.{call_of, as_outcome}
 use Rattle.calls.specs.declared.Performed.{Performed}
 use Rattle.replay.specs.Recording.{Recorded, Calls, no_calls, Ending, ends, stops, most_calls, read_calls}
@@ -53,7 +54,7 @@ module _ (s : List ℕ) (g : PlaneGuidance) (at : ℕ) (fell : Bool) (n : ℕ) w
   told_over : length s ≤ at → told s (place g at fell n) ≡ []
   told_over h = told_none ends (calls_over s at (most_calls - n) h)
 
-  told_bad : (r : ℕ) → n < most_calls → at < length s → read_call s at ≡ read.Refused r → told s (place g at fell n) ≡ []
+  told_bad : (r : Refusal) → n < most_calls → at < length s → read_call s at ≡ Err r → told s (place g at fell n) ≡ []
   told_bad r h l e =
       let k : most_calls - n ≡ suc (most_calls - n - 1) = omega arith in
       told_none (stops r) (rw k (calls_bad s at (most_calls - n - 1) r l e))
@@ -66,15 +67,15 @@ module _ (s : List ℕ) (g : PlaneGuidance) (at : ℕ) (fell : Bool) (n : ℕ) w
 
       go : (b : Bool) → leb (length s) at ≡ b → told s (place g at fell n) ≡ []
       go true e = told_over (leb-true (length s) at e)
-      go false e = told_none (stops 9) (rw k (calls_nine s at (leb-false (length s) at e)))
+      go false e = told_none (stops reason.TooManyCalls) (rw k (calls_nine s at (leb-false (length s) at e)))
 
-  told_more : (c : Call) (next : ℕ) → n < most_calls → at < length s → read_call s at ≡ read.Read c next
+  told_more : (c : Call) (next : ℕ) → n < most_calls → at < length s → read_call s at ≡ Ok (record { call = c; next = next })
       → let o = perform g (call_of c) in let r = refused o.reply in let rest = told s (place o.next next (fell_back fell (call_of c) r) (n + 1)) in
       told s (place g at fell n) ≡ cond (struck fell (call_of c) r) rest (record { number = n + 1; call = c } ∷ rest)
   unfolding told
   told_more c next h l e =
       let k : most_calls - n ≡ suc (most_calls - (n + 1)) = omega arith in
-      rw (k, calls_more s at (most_calls - (n + 1)) c next l e) (stays_more g fell (n + 1) (record { place = at; call = c }) (read_calls (most_calls - (n + 1)) s next).calls)
+      rw (k, calls_more s at (most_calls - (n + 1)) (record { call = c; next = next }) l e) (stays_more g fell (n + 1) (record { place = at; call = c }) (read_calls (most_calls - (n + 1)) s next).calls)
 
 -- ---- `next_call`
 
@@ -86,14 +87,6 @@ pub record Seeking (s : List ℕ) (p : Place) (g : PlaneGuidance) (at : ℕ) (fe
 pub seek_starts : (s : List ℕ) (p : Place) → Seeking s p p.guidance p.at p.fell p.number
 seek_starts s p = record { is = refl; above = omega arith }
 
-from_none : (s : List ℕ) (c : Call) (p : Place) → p.number ≡ 0 → told_from s (record { call = c; place = p }) ≡ []
-unfolding told_from
-from_none s c p e = rw e
-
-from_one : (s : List ℕ) (c : Call) (p : Place) → 0 < p.number → told_from s (record { call = c; place = p }) ≡ record { number = p.number; call = c } ∷ told s p
-unfolding told_from
-from_one s c p h = rw (ne_eqb p.number 0 (λ (e : p.number ≡ 0). omega arith))
-
 stays_struck : (b : Bool) → not b ≡ false → b ≡ true
 stays_struck true q = refl
 stays_struck false q = sym q
@@ -104,23 +97,19 @@ not_struck false q = refl
 
 module _ {s : List ℕ} {p : Place} {g : PlaneGuidance} {at : ℕ} {fell : Bool} {n : ℕ} (f : Seeking s p g at fell n) where
   -- no call remains
-  seek_none : told s (place g at fell n) ≡ [] → Next s p (record { call = Prime; place = place g at fell 0 })
-  seek_none e = record {
-    is = f.is ∙ e ∙ sym (from_none s Prime (place g at fell 0) refl);
-    most = omega arith;
-    rises = λ (h : ◌≡◌ {A = ℕ} 0 0 → ⊥). absurd (h refl);
-  }
+  seek_none : told s (place g at fell n) ≡ [] → Next s p None
+  seek_none e = record { is = f.is ∙ e; rises = tt }
 
-  pub seek_over : length s ≤ at → Next s p (record { call = Prime; place = place g at fell 0 })
+  pub seek_over : length s ≤ at → Next s p None
   seek_over h = seek_none (told_over s g at fell n h)
 
-  pub seek_bad : (r : ℕ) → n < most_calls → at < length s → read_call s at ≡ read.Refused r → Next s p (record { call = Prime; place = place g at fell 0 })
+  pub seek_bad : (r : Refusal) → n < most_calls → at < length s → read_call s at ≡ Err r → Next s p None
   seek_bad r h l e = seek_none (told_bad s g at fell n r h l e)
 
-  pub seek_most : most_calls ≤ n → Next s p (record { call = Prime; place = place g at fell 0 })
+  pub seek_most : most_calls ≤ n → Next s p None
   seek_most h = seek_none (told_most s g at fell n h)
 
-  module _ (c : Call) (next : ℕ) (h : n < most_calls) (l : at < length s) (e : read_call s at ≡ read.Read c next)
+  module _ (c : Call) (next : ℕ) (h : n < most_calls) (l : at < length s) (e : read_call s at ≡ Ok (record { call = c; next = next }))
       (done : Performed) (ed : as_outcome done ≡ perform g (call_of c)) (j : Judged) (ej : j ≡ judged fell (as_outcome done).reply) where
     abbrev Then : Outcome
     Then = perform g (call_of c)
@@ -137,9 +126,8 @@ module _ {s : List ℕ} {p : Place} {g : PlaneGuidance} {at : ℕ} {fell : Bool}
     pub seek_turn : not j.struck ≡ false → Seeking s p done.guidance next j.fell (n + 1)
     seek_turn q = record { is = rw (stays_struck j.struck q) at more; above = omega (arith, f.above) }
 
-    pub seek_found : not j.struck ≡ true → Next s p (record { call = c; place = place done.guidance next j.fell (n + 1) })
+    pub seek_found : not j.struck ≡ true → Next s p (Some (record { call = c; place = place done.guidance next j.fell (n + 1) }))
     seek_found q = record {
-      is = (rw (not_struck j.struck q) at more) ∙ sym (from_one s c (place done.guidance next j.fell (n + 1)) (omega arith));
-      most = omega arith;
-      rises = λ (z : n + 1 ≡ 0 → ⊥). omega (arith, f.above);
+      is = rw (not_struck j.struck q) at more;
+      rises = (omega (arith, f.above), omega arith);
     }

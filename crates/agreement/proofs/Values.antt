@@ -5,17 +5,20 @@ use mathlib.Core.List.{List, [], ◌∷◌, ◌++◌}
 use Prim.Native.Nat.{ℕ, ◌+◌}
 use native.Mathlib.Omega.{arith}
 use lib.ListN.{length, take, drop, replicate}
+use lib.Dec.{eqb}
+use Rattle.std.specs.Prelude.{map, Result, Ok}
+use Rattle.refusals.specs.declared.Refusal.{Refusal}
+use Rattle.records.specs.declared.config.ReadConfig.{ReadConfig}
+use Rattle.records.specs.declared.call.ReadCall.{ReadCall}
 use Rattle.laws.specs.declared.config.PlaneGuidanceConfig.{PlaneGuidanceConfig}
 use Rattle.laws.specs.declared.types.ControlInput.TheVariants as Input
 use Rattle.fields.specs.Bytes.{bytes_of}
-use Rattle.fields.specs.Fields.{map_of, body_of}
+use Rattle.fields.specs.Fields.{bit_of, map_of, body_of}
 use Rattle.fields.specs.Numbers.{bits_of}
 use Rattle.records.specs.Config.{config_fields, config_map, config_record, read_config}
 use Rattle.records.specs.Call.{call_fields, command_parts, waypoint_parts, parts_of, values_of, map_of_parts, call_record, read_call}
-use Rattle.records.specs.declared.config.ReadConfig.TheVariants as config
 use Rattle.records.specs.declared.call.Call.{Call}
 use Rattle.records.specs.declared.call.Call.TheVariants.{Prime, Attitude, Rate, Waypoint, AbsoluteAttitude, Land, AbsoluteRate}
-use Rattle.records.specs.declared.call.ReadCall.TheVariants as read
 use Rattle.record_laws.proofs.ConfigBack.{config_laws}
 use Rattle.record_laws.proofs.CallBack.{call_laws}
 use Rattle.claims.specs.Calls as claims
@@ -31,21 +34,22 @@ use Rattle.agreement.specs.Agreement.{config_values, call_values, Numbered, numb
 -- a record is made of the values
 abbrev config_bytes : List ℕ → List ℕ
 config_bytes v =
-    let m = map_of config_fields (replicate 33 0) v in
+    let m = map_of config_fields (replicate 33 false) v in
     bytes_of 5 m ++ body_of config_fields m v
 
 config_record_lem : (c : PlaneGuidanceConfig) → config_record c ≡ config_bytes (config_values c)
 unfolding config_record config_map config_values
 config_record_lem c = refl
 
-pub config_eq : (s t : List ℕ) (c d : PlaneGuidanceConfig) (m n : ℕ) → read_config s 0 ≡ config.Read c m
-    → read_config t 0 ≡ config.Read d n → config_values c ≡ config_values d → c ≡ d
+pub config_eq : (s t : List ℕ) (c d : PlaneGuidanceConfig) (m n : ℕ) → read_config s 0 ≡ Ok (record { config = c; next = m })
+    → read_config t 0 ≡ Ok (record { config = d; next = n }) → config_values c ≡ config_values d → c ≡ d
 config_eq s t c d m n p q e =
     let records : config_record c ≡ config_record d = config_record_lem c ∙ ap config_bytes e ∙ sym (config_record_lem d) in
-    let a : read_config (config_record c) 0 ≡ config.Read c (length (config_record c)) = (config_laws.again s 0 c m p).1 in
-    let b : read_config (config_record d) 0 ≡ config.Read d (length (config_record d)) = (config_laws.again t 0 d n q).1 in
-    let z : config.Read c (length (config_record c)) ≡ config.Read d (length (config_record d)) = sym a ∙ ap (λ (l : List ℕ). read_config l 0) records ∙ b in
-    cc
+    let a : read_config (config_record c) 0 ≡ Ok (record { config = c; next = length (config_record c) }) = (config_laws.again s 0 c m p).1 in
+    let b : read_config (config_record d) 0 ≡ Ok (record { config = d; next = length (config_record d) }) = (config_laws.again t 0 d n q).1 in
+    let z : ◌≡◌ {A = Result ReadConfig Refusal} (Ok (record { config = c; next = length (config_record c) })) (Ok (record { config = d; next = length (config_record d) })) = sym a ∙ ap (λ (l : List ℕ). read_config l 0) records ∙ b in
+    let same : ◌≡◌ {A = ReadConfig} (record { config = c; next = length (config_record c) }) (record { config = d; next = length (config_record d) }) = cc in
+    ap (λ (r : ReadConfig). r.config) same
 
 values_front : (k : Call) → take 22 (call_values k) ≡ values_of (parts_of k)
 unfolding call_values values_of parts_of command_parts waypoint_parts bits_of
@@ -57,33 +61,46 @@ values_front (AbsoluteAttitude r dt c) = refl
 values_front (Land r dt) = refl
 values_front (AbsoluteRate r dt c) = refl
 
-values_rest : (k : Call) → drop 22 (call_values k) ≡ (parts_of k).keeps
+-- a bit as a Bool
+abbrev truth : ℕ → Bool
+truth b = eqb b 1
+
+truth_of_bits : (ks : List Bool) → map truth (map bit_of ks) ≡ ks
+truth_of_bits [] = refl
+truth_of_bits (true ∷ ks) = ap (λ (l : List Bool). true ∷ l) (truth_of_bits ks)
+truth_of_bits (false ∷ ks) = ap (λ (l : List Bool). false ∷ l) (truth_of_bits ks)
+
+values_bits : (k : Call) → drop 22 (call_values k) ≡ map bit_of (parts_of k).keeps
 unfolding call_values values_of parts_of command_parts waypoint_parts bits_of
-values_rest Prime = refl
-values_rest (Attitude r dt c) = refl
-values_rest (Rate r dt c) = refl
-values_rest (Waypoint r dt c s cap) = refl
-values_rest (AbsoluteAttitude r dt c) = refl
-values_rest (Land r dt) = refl
-values_rest (AbsoluteRate r dt c) = refl
+values_bits Prime = refl
+values_bits (Attitude r dt c) = refl
+values_bits (Rate r dt c) = refl
+values_bits (Waypoint r dt c s p) = refl
+values_bits (AbsoluteAttitude r dt c) = refl
+values_bits (Land r dt) = refl
+values_bits (AbsoluteRate r dt c) = refl
+
+values_rest : (k : Call) → map truth (drop 22 (call_values k)) ≡ (parts_of k).keeps
+values_rest k = rw (values_bits k) (truth_of_bits (parts_of k).keeps)
 
 abbrev call_bytes : List ℕ → List ℕ
 call_bytes v =
-    let m = map_of call_fields (1 ∷ 0 ∷ drop 22 v) (take 22 v) in
+    let m = map_of call_fields (true ∷ false ∷ map truth (drop 22 v)) (take 22 v) in
     bytes_of 4 m ++ body_of call_fields m (take 22 v)
 
 call_record_lem : (k : Call) → call_record k ≡ call_bytes (call_values k)
 unfolding call_record map_of_parts
 call_record_lem k = rw (values_front k, values_rest k)
 
-pub call_eq : (s t : List ℕ) (a b : ℕ) (c d : Call) (m n : ℕ) → read_call s a ≡ read.Read c m → read_call t b ≡ read.Read d n
+pub call_eq : (s t : List ℕ) (a b : ℕ) (c d : Call) (m n : ℕ) → read_call s a ≡ Ok (record { call = c; next = m }) → read_call t b ≡ Ok (record { call = d; next = n })
     → call_values c ≡ call_values d → c ≡ d
 call_eq s t a b c d m n p q e =
     let records : call_record c ≡ call_record d = call_record_lem c ∙ ap call_bytes e ∙ sym (call_record_lem d) in
-    let x : read_call (call_record c) 0 ≡ read.Read c (length (call_record c)) = (call_laws.again s a c m p).1 in
-    let y : read_call (call_record d) 0 ≡ read.Read d (length (call_record d)) = (call_laws.again t b d n q).1 in
-    let z : read.Read c (length (call_record c)) ≡ read.Read d (length (call_record d)) = sym x ∙ ap (λ (l : List ℕ). read_call l 0) records ∙ y in
-    cc
+    let x : read_call (call_record c) 0 ≡ Ok (record { call = c; next = length (call_record c) }) = (call_laws.again s a c m p).1 in
+    let y : read_call (call_record d) 0 ≡ Ok (record { call = d; next = length (call_record d) }) = (call_laws.again t b d n q).1 in
+    let z : ◌≡◌ {A = Result ReadCall Refusal} (Ok (record { call = c; next = length (call_record c) })) (Ok (record { call = d; next = length (call_record d) })) = sym x ∙ ap (λ (l : List ℕ). read_call l 0) records ∙ y in
+    let same : ◌≡◌ {A = ReadCall} (record { call = c; next = length (call_record c) }) (record { call = d; next = length (call_record d) }) = cc in
+    ap (λ (r : ReadCall). r.call) same
 
 -- ---- lists of calls
 

@@ -1,17 +1,20 @@
 -- Document 02, K13: two recordings held together. Definitions only.
-use Rattle.std.specs.Prelude.{Bool, true, false, cond, ◌&&◌, List, [], ◌∷◌, ◌++◌, ℕ, ◌+◌, eqb}
+use Rattle.std.specs.Prelude.{Bool, true, false, cond, ◌&&◌, List, [], ◌∷◌, ◌++◌, ℕ, ◌+◌, eqb, map, Some, None, Result, Ok, Err}
 use Rattle.laws.specs.declared.config.PlaneGuidanceConfig.{PlaneGuidanceConfig}
 use Rattle.guidance.specs.Plane.{fresh}
 use Rattle.claims.specs.Calls.{marks, unmarked}
 use Rattle.fields.specs.Numbers.{bits_of}
+use Rattle.fields.specs.Fields.{bit_of}
 use Rattle.config_numbers.specs.Numbers.{numbers_of}
 use Rattle.records.specs.Call.{parts_of, values_of}
 use Rattle.records.specs.declared.call.Call.{Call}
 use Rattle.replay.specs.Recording.{Recorded, Recording, bad_config, recorded, recording}
 use Rattle.compaction.specs.Compaction.{calls_of, compacted}
-use Rattle.compaction.specs.declared.Compacted.{Compacted}
-use Rattle.compaction.specs.declared.Compacted.TheVariants as short
+use Rattle.compaction.specs.declared.BadRecording.{BadRecording}
 use Rattle.agreement.specs.declared.Agreement.{Agreement}
+use Rattle.agreement.specs.declared.Refused.{Refused}
+use Rattle.agreement.specs.declared.Side.{Side}
+use Rattle.agreement.specs.declared.Side.TheVariants as side
 use Rattle.agreement.specs.declared.Agreement.TheVariants as answer
 
 -- ---- "Configuration and call values are held equal as bits, whatever map spelled them"; every NaN has the bits 7fc00000
@@ -29,7 +32,7 @@ config_values c = bits_of (numbers_of c)
 -- kind, regime and the bits of the numbers, +0 for one that the kind doesn't use; then a 1 for each number of a leg, an airspeed
 -- or a cap that is present
 unfoldable pub call_values : Call → List ℕ
-call_values k = values_of (parts_of k) ++ (parts_of k).keeps
+call_values k = values_of (parts_of k) ++ map bit_of (parts_of k).keeps
 
 -- ---- "strike each by demand 3's rule"
 
@@ -55,24 +58,23 @@ settings (recorded c calls) = config_values c
 
 unfoldable pub part_calls : List Numbered → List Numbered → Agreement
 part_calls [] [] = answer.Agree
-part_calls [] (y ∷ ys) = answer.Part 0 y.number
-part_calls (x ∷ xs) [] = answer.Part x.number 0
-part_calls (x ∷ xs) (y ∷ ys) = cond (same_list (call_values x.call) (call_values y.call)) (part_calls xs ys) (answer.Part x.number y.number)
+part_calls [] (y ∷ ys) = answer.Part None (Some y.number)
+part_calls (x ∷ xs) [] = answer.Part (Some x.number) None
+part_calls (x ∷ xs) (y ∷ ys) = cond (same_list (call_values x.call) (call_values y.call)) (part_calls xs ys) (answer.Part (Some x.number) (Some y.number))
 
 -- "0 in both if the configurations part"
 unfoldable pub parted : Recording → Recording → Agreement
-parted r q = cond (same_list (settings r) (settings q)) (part_calls (remaining r) (remaining q)) (answer.Part 0 0)
+parted r q = cond (same_list (settings r) (settings q)) (part_calls (remaining r) (remaining q)) answer.PartAtConfig
 
 -- ---- "a recording that K7 would refuse gets that refusal"
 
-abbrev pub or_refused : ℕ → Compacted → Agreement → Agreement
-or_refused whose (short.Length n) otherwise = otherwise
-or_refused whose (short.Refused f) otherwise = answer.Refused whose f
-or_refused whose (short.Stopped n r) otherwise = answer.Stopped whose n r
+abbrev pub or_refused : Side → Result ℕ BadRecording → Result Agreement Refused → Result Agreement Refused
+or_refused whose (Ok n) otherwise = otherwise
+or_refused whose (Err why) otherwise = Err (record { side = whose; why = why })
 
--- the box's and the display's; "the box's first": 1 the box, 2 the display
-unfoldable pub agreement : List ℕ → List ℕ → Agreement
+-- the box's and the display's; "the box's first"
+unfoldable pub agreement : List ℕ → List ℕ → Result Agreement Refused
 agreement s t =
-    or_refused 1 (compacted s (recording s))
-    (or_refused 2 (compacted t (recording t))
-    (parted (recording s) (recording t)))
+    or_refused side.Box (compacted s (recording s))
+    (or_refused side.Display (compacted t (recording t))
+    (Ok (parted (recording s) (recording t))))

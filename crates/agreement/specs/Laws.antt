@@ -1,20 +1,19 @@
 -- What is wanted of an agreement, for every two byte strings. Statements only; proofs/LawsProof proves them.
-use Rattle.std.specs.Prelude.{◌≡◌, List, ℕ, take}
+use Rattle.std.specs.Prelude.{◌≡◌, List, ℕ, take, Ok}
 use Rattle.laws.specs.declared.config.PlaneGuidanceConfig.{PlaneGuidanceConfig}
 use Rattle.guidance.specs.Plane.{fresh}
 use Rattle.claims.specs.Calls.{replies, marks, unmarked}
 use Rattle.replay.specs.Recording.{Recorded, ends, recorded, recording}
 use Rattle.compaction.specs.Compaction.{calls_of, compacted, bytes_after}
-use Rattle.compaction.specs.declared.Compacted.TheVariants as short
 use Rattle.agreement.specs.Agreement.{agreement}
 use Rattle.agreement.specs.declared.Agreement.TheVariants as answer
 
 abbrev pub Agree : List ℕ → List ℕ → Type 0
-Agree s t = agreement s t ≡ answer.Agree
+Agree s t = agreement s t ≡ Ok answer.Agree
 
 -- a recording that K7 would not refuse
 abbrev pub Read : List ℕ → Type 0
-Read s = (n : ℕ) × (compacted s (recording s) ≡ short.Length n)
+Read s = (n : ℕ) × (compacted s (recording s) ≡ Ok n)
 
 -- Two recordings that agree: one configuration, and the calls of each.
 pub record OneStory (s t : List ℕ) : Type 0 where
@@ -40,4 +39,4 @@ pub record Laws : Type 0 where
   pub symmetric : (s t : List ℕ) → Agree s t → Agree t s
   pub transitive : (s t u : List ℕ) → Agree s t → Agree t u → Agree s u
   -- a recording agrees with its compacted self: the bytes that compaction leaves, up to the length that it gives
-  pub compacted_self : (s : List ℕ) (n : ℕ) → compacted s (recording s) ≡ short.Length n → Agree s (take n (bytes_after s (recording s)))
+  pub compacted_self : (s : List ℕ) (n : ℕ) → compacted s (recording s) ≡ Ok n → Agree s (take n (bytes_after s (recording s)))

@@ -5,48 +5,44 @@
 // goes from one remaining call to the next, for as long as the two calls are the same.
 #![tactic(auto)]
 
-ghost use Rattle.std.specs.Prelude.{◌≡◌, ◌≤◌, length};
+ghost use Rattle.std.specs.Prelude.{◌≡◌};
 ghost use Rattle.compaction.specs.Code.Steps.{decided};
 ghost use Rattle.agreement.specs.Agreement as spec;
 ghost use Rattle.agreement.specs.Code.Steps as step;
 ghost use Rattle.agreement.specs.Code.Steps.{Next};
 
-use compaction::{Decided, decide, judge};
-use config_numbers::bits_of;
-use fields::changed;
+use compaction::{BadRecording, Sound, decide, judge};
+use fields::numbers::bits_of;
 use guidance::plane::PlaneGuidance;
 use laws::config::PlaneGuidanceConfig;
-use records::call::{Call, ReadCall, read_call};
-use records::call_writer;
+use records::call::{Call, read_call};
 use records::call_writer::parts_of;
+use replay::MOST_CALLS;
 
-// Whose recording was refused.
-pub const BOX: u32 = 1;
-
-pub const DISPLAY: u32 = 2;
-
-// They agree; or they part at the calls of these numbers, 0 in both for the configuration, and 0 where a recording has no call
-// left; or one of them is refused, as its compaction would be.
-#[derive(Clone, Copy)]
-pub enum Agreement {
-    Agree,
-    Part {
-        box_call: u32,
-        display_call: u32,
-    },
-    Refused {
-        whose: u32,
-        field: u32,
-    },
-    Stopped {
-        whose: u32,
-        number: u32,
-        refusal: u32,
-    },
+// Whose recording it is.
+#[derive(Clone, Copy, PartialEq, Eq)]
+pub enum Side {
+    Box,
+    Display,
 }
 
-// "The desk program has input left after call 4,096".
-const MOST_CALLS: u32 = 4096;
+// A recording that is refused, as its compaction would be.
+#[derive(Clone, Copy, PartialEq, Eq)]
+pub struct Refused {
+    pub side: Side,
+    pub why: BadRecording,
+}
+
+// They agree; or they part at the configuration, or at the calls of these numbers, none where a recording has no call left.
+#[derive(Clone, Copy, PartialEq, Eq)]
+pub enum Agreement {
+    Agree,
+    PartAtConfig,
+    Part {
+        box_call: Option<u32>,
+        display_call: Option<u32>,
+    },
+}
 
 // A place after a call: the guidance there, whether the last accepted guide or prime call was a fallback, and the call's number.
 #[derive(Clone, Copy)]
@@ -57,42 +53,19 @@ struct Place {
     number: u32,
 }
 
-// A remaining call, and the place after it, whose number is 0 where no call remains.
+// A remaining call, and the place after it.
 #[derive(Clone, Copy)]
 struct Told {
     call: Call,
     place: Place,
 }
 
-// ---- values, held equal as bits
-
-fn same_numbers(a: &[u32], b: &[u32]) -> bool
-    requires { (length b.now ≡ length a.now) × (length a.now ≤ 40) }
-    ensures { result ≡ spec.same_list a.now b.now }
-{
-    changed(a, b) == 0
-}
-
-fn same_bytes(a: &[u8], b: &[u8]) -> bool
-    requires { length b.now ≡ length a.now }
-    ensures { result ≡ spec.same_list a.now b.now }
-{
-    let mut i = 0;
-    while i < a.len() {
-        if a[i] != b[i] {
-            return false;
-        }
-        i += 1;
-    }
-    true
-}
+// ---- values, equal as bits
 
 fn same_config(c: PlaneGuidanceConfig, d: PlaneGuidanceConfig) -> bool
     ensures { result ≡ spec.same_list (spec.config_values c) (spec.config_values d) }
 {
-    let a = bits_of(c);
-    let b = bits_of(d);
-    same_numbers(&a, &b)
+    config_numbers::bits_of(c) == config_numbers::bits_of(d)
 }
 
 fn same_call(c: Call, d: Call) -> bool
@@ -100,85 +73,45 @@ fn same_call(c: Call, d: Call) -> bool
 {
     let p = parts_of(c);
     let q = parts_of(d);
-    let u = p.numbers;
-    let v = q.numbers;
-    let a = call_writer::bits_of(u);
-    let b = call_writer::bits_of(v);
-    let numbers = same_numbers(&a, &b);
-    let i = p.keeps;
-    let j = q.keeps;
-    let present = same_bytes(&i, &j);
-    (p.kind == q.kind) & (p.regime == q.regime) & numbers & present
+    (p.kind == q.kind)
+        & (p.regime == q.regime)
+        & (bits_of(p.numbers) == bits_of(q.numbers))
+        & (p.keeps == q.keeps)
 }
 
 // ---- one recording's remaining calls
 
-// The next call that is not struck, after another.
-fn next_call(s: &[u8], last: Told) -> Told
-    ensures { Next s.now last.place result }
+// The next call that is not struck, after a place.
+fn next_call(s: &[u8], last: Place) -> Option<Told>
+    ensures { Next s.now last result }
 {
-    let mut g = last.place.guidance;
-    let mut at = last.place.at;
-    let mut fell = last.place.fell;
-    let mut n = last.place.number;
-    while n < MOST_CALLS {
-        if s.len() <= at {
-            return Told {
-                call: Call::Prime,
-                place: Place {
-                    guidance: g,
-                    at,
-                    fell,
-                    number: 0,
-                },
-            };
+    let mut place = last;
+    while place.number < MOST_CALLS {
+        if s.len() <= place.at {
+            return None;
         }
-        let read = read_call(s, at);
-        match read {
+        match read_call(s, place.at) {
             // Every record was read before.
-            ReadCall::Refused(r) => {
-                return Told {
-                    call: Call::Prime,
-                    place: Place {
-                        guidance: g,
-                        at,
-                        fell,
-                        number: 0,
-                    },
+            Err(_) => return None,
+            Ok(read) => {
+                let done = calls::perform(place.guidance, read.call);
+                let j = judge(place.fell, done.reply);
+                place = Place {
+                    guidance: done.guidance,
+                    at: read.next,
+                    fell: j.fell,
+                    number: place.number + 1,
                 };
-            }
-            ReadCall::Read { call, next } => {
-                let done = calls::perform(g, call);
-                let reply = done.reply;
-                let after = done.guidance;
-                let j = judge(fell, reply);
-                g = after;
-                at = next;
-                fell = j.fell;
-                n += 1;
                 if !j.struck {
-                    return Told {
-                        call,
-                        place: Place {
-                            guidance: g,
-                            at,
-                            fell,
-                            number: n,
-                        },
-                    };
+                    return Some(Told {
+                        call: read.call,
+                        place,
+                    });
                 }
             }
         }
     }
-    Told {
-        call: Call::Prime,
-        place: Place {
-            guidance: g,
-            at,
-            fell,
-            number: 0,
-        },
-    }
+    None
 }
 
 // ---- both
@@ -187,113 +120,72 @@ fn next_call(s: &[u8], last: Told) -> Told
 fn part_calls(s: &[u8], a: Place, t: &[u8], b: Place) -> Agreement
     ensures { result ≡ spec.part_calls (step.told s.now a) (step.told t.now b) }
 {
-    let mut x = next_call(
-        s,
-        Told {
-            call: Call::Prime,
-            place: a,
-        },
-    );
-    let mut y = next_call(
-        t,
-        Told {
-            call: Call::Prime,
-            place: b,
-        },
-    );
-    while x.place.number != 0 {
-        if y.place.number == 0 {
-            return Agreement::Part {
-                box_call: x.place.number,
-                display_call: 0,
-            };
+    let mut x = next_call(s, a);
+    let mut y = next_call(t, b);
+    loop {
+        match (x, y) {
+            (None, None) => return Agreement::Agree,
+            (None, Some(q)) => {
+                return Agreement::Part {
+                    box_call: None,
+                    display_call: Some(q.place.number),
+                };
+            }
+            (Some(p), None) => {
+                return Agreement::Part {
+                    box_call: Some(p.place.number),
+                    display_call: None,
+                };
+            }
+            (Some(p), Some(q)) => {
+                if !same_call(p.call, q.call) {
+                    return Agreement::Part {
+                        box_call: Some(p.place.number),
+                        display_call: Some(q.place.number),
+                    };
+                }
+                x = next_call(s, p.place);
+                y = next_call(t, q.place);
+            }
         }
-        let c = x.call;
-        let d = y.call;
-        if !same_call(c, d) {
-            return Agreement::Part {
-                box_call: x.place.number,
-                display_call: y.place.number,
-            };
-        }
-        x = next_call(s, x);
-        y = next_call(t, y);
-    }
-    if y.place.number == 0 {
-        return Agreement::Agree;
-    }
-    Agreement::Part {
-        box_call: 0,
-        display_call: y.place.number,
     }
 }
 
-fn start(g: PlaneGuidance, at: usize) -> Place
-    ensures { result ≡ step.start g at }
+fn start(sound: Sound) -> Place
+    ensures { result ≡ step.start sound }
 {
     Place {
-        guidance: g,
-        at,
+        guidance: sound.guidance,
+        at: sound.next,
         fell: false,
         number: 0,
     }
 }
 
 // Two recordings that can be read.
-fn part(
-    s: &[u8],
-    g: PlaneGuidance,
-    at: usize,
-    t: &[u8],
-    h: PlaneGuidance,
-    place: usize,
-) -> Agreement
-    ensures { result ≡ step.parted s.now g at t.now h place }
+fn part(s: &[u8], a: Sound, t: &[u8], b: Sound) -> Agreement
+    ensures { result ≡ step.parted s.now a t.now b }
 {
-    let c = g.config;
-    let d = h.config;
-    if !same_config(c, d) {
-        return Agreement::Part {
-            box_call: 0,
-            display_call: 0,
-        };
+    if !same_config(a.guidance.config, b.guidance.config) {
+        return Agreement::PartAtConfig;
     }
-    let a = start(g, at);
-    let b = start(h, place);
-    part_calls(s, a, t, b)
+    part_calls(s, start(a), t, start(b))
 }
 
-// The box's recording can be read.
-fn with_display(s: &[u8], g: PlaneGuidance, at: usize, t: &[u8]) -> Agreement
-    ensures { result ≡ step.with_display s.now g at t.now (decided t.now) }
+fn decide_for(side: Side, s: &[u8]) -> Result<Sound, Refused>
+    ensures { result ≡ step.decided_for side (decided s.now) }
 {
-    let d = decide(t);
-    match d {
-        Decided::Refused(field) => Agreement::Refused {
-            whose: DISPLAY,
-            field,
-        },
-        Decided::Stopped { number, refusal } => Agreement::Stopped {
-            whose: DISPLAY,
-            number,
-            refusal,
-        },
-        Decided::Sound { guidance, next } => part(s, g, at, t, guidance, next),
+    match decide(s) {
+        Err(why) => Err(Refused { side, why }),
+        Ok(sound) => Ok(sound),
     }
 }
 
-// Holds the box's recording and the display's together.
-pub fn agree(s: &[u8], t: &[u8]) -> Agreement
+// Compares the box's recording with the display's; the box's refusal first.
+pub fn agree(s: &[u8], t: &[u8]) -> Result<Agreement, Refused>
     ensures { result ≡ spec.agreement s.now t.now }
 {
-    let d = decide(s);
-    match d {
-        Decided::Refused(field) => Agreement::Refused { whose: BOX, field },
-        Decided::Stopped { number, refusal } => Agreement::Stopped {
-            whose: BOX,
-            number,
-            refusal,
-        },
-        Decided::Sound { guidance, next } => with_display(s, guidance, next, t),
-    }
+    let a = decide_for(Side::Box, s)?;
+    let b = decide_for(Side::Display, t)?;
+    Ok(part(s, a, t, b))
 }

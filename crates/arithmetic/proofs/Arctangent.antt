@@ -1,6 +1,6 @@
 -- The arctangent of a number above 0 is finite and above 0: each operation of it is bounded by a fraction. Assumes nothing.
 use mathlib.Core.Path.{◌≡◌, refl, sym, ap, ◌∙◌, subst}
-use mathlib.Core.Bool.{Bool, true, false, cond, ◌||◌}
+use mathlib.Core.Bool.{Bool, true, false, cond}
 use Prim.Native.Nat.{ℕ, zero, suc, ◌*◌, ◌^◌, ◌≤◌, ◌<◌}
 use native.Mathlib.Nat.{le_trans, le_of_eq, lt_irrefl, one-mul, mul-le-mul_right, mul-pos, pow-suc}
 use native.Mathlib.Omega.{arith}
@@ -11,6 +11,8 @@ use lib.Ieee.{Float, nan, inf, fin, binary32, up, down, odd, units, round, add, 
 use lib.Ieee.Fits.{round_is, up_pos, down_pos}
 use lib.Ieee.Exact.{HasValue}
 use borrow.Author.Tests.{ltb-true, ltb-false}
+use Rattle.std.proofs.lemmas.Bool.{or_parts}
+use Rattle.std.proofs.lemmas.Float.{T_from_true}
 use Rattle.arithmetic.specs.Constants.{◌+ᶠ◌, ◌-ᶠ◌, ◌·ᶠ◌, ◌/ᶠ◌, n0, n1, frac_pi2, frac_pi4}
 use Rattle.arithmetic.specs.Order.{finite, size, negative}
 use Rattle.arithmetic.specs.Trigonometry.{series, part, arctangent_of_size, arctangent}
@@ -109,27 +111,19 @@ end_number_lem : is_nan series_end ≡ false
 unfolding of_bits is_nan
 end_number_lem = refl
 
-truth : (b : Bool) → b ≡ true → T b
-truth true e = tt
-truth false e = never e
-
-or_false : (a b : Bool) → a || b ≡ false → a ≡ false
-or_false true b h = h
-or_false false b h = refl
-
 module _ (m : ℕ) (e : ℤ) where
   abbrev u : Float
   u = fin false m e
 
   up_to_end : le u series_end ≡ true → Within 1 2 u
-  up_to_end h = weaker 13898701 0x2000000 1 2 u (omega arith) (omega arith) (le_within series_end 13898701 0x2000000 (plain m e) end_value (truth _ h))
+  up_to_end h = weaker 13898701 0x2000000 1 2 u (omega arith) (omega arith) (le_within series_end 13898701 0x2000000 (plain m e) end_value (T_from_true _ h))
 
   past_end : le u series_end ≡ false → AtLeast 3 8 u
   unfolding le is_nan
   past_end h =
       fewer 13898701 0x2000000 3 8 u (omega arith) (omega arith)
       (le_least series_end 13898701 0x2000000 (plain m e) (omega arith) end_value
-      (truth (le series_end u) (le_of_not_lt u series_end refl end_number_lem (or_false (lt u series_end) (eq u series_end) h))))
+      (T_from_true (le series_end u) (le_of_not_lt u series_end refl end_number_lem (or_parts (lt u series_end) (eq u series_end) h).0)))
 
   module _ (h : Within 1 1 (fin false m e)) where
     less_one : AtLeast 3 8 u → Within 5 8 (u -ᶠ n1)

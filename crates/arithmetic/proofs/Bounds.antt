@@ -4,11 +4,14 @@ use mathlib.Core.Bool.{Bool, true, false, cond, not, ◌&&◌, ◌||◌, true≢
 use Prim.Native.Nat.{ℕ, zero, suc, ◌+◌, ◌*◌, ◌<◌}
 use native.Mathlib.Nat.{zero-mul, mul-one, mul-pos}
 use native.Mathlib.Omega.{arith}
-use lib.Dec.{ltb, eqb}
+use lib.Dec.{ltb, eqb, not_T}
 use lib.IntN.{ℤ, pos}
 use borrow.Author.Tests.{ltb-true, ltb-false, eqb-true, le-ltb, eq-eqb, ne_eqb}
 use lib.Ieee.{Float, nan, inf, fin, of_bits, up, down, lt, le, eq, ne, neg, is_nan}
+use lib.Ieee.Bits.{is_true, is_false}
 use lib.Ieee.Fits.{up_pos}
+use Rattle.std.proofs.lemmas.Float as law
+use Rattle.std.proofs.lemmas.Float.{le_refl, le_of_not-lt, lt_irrefl, lt_of_le_of_lt, le_left, le_right, eq_flip, eq-not_lt, T_from_true, T_from_false}
 use Rattle.arithmetic.specs.Constants.{n0}
 use Rattle.arithmetic.specs.Order.{clamp, least, greatest, finite}
 
@@ -17,10 +20,6 @@ never e = absurd (false≢true e)
 
 pub never' : {A : Type 0} → true ≡ false → A
 never' e = absurd (true≢false e)
-
-or_right : (p : Bool) {q : Bool} → q ≡ true → p || q ≡ true
-or_right true e = refl
-or_right false e = e
 
 -- ---- numbers
 eqb_self : (a : ℕ) → eqb a a ≡ true
@@ -49,9 +48,6 @@ tri' a b e = go (ltb b a) refl
         let x : a ≡ b = omega arith in
         rw (eq-eqb a b x)
 
-not_below_self : (a : ℕ) → ltb a a ≡ false
-not_below_self a = le-ltb a a (omega arith)
-
 -- -b ≤ a
 pub across : (a b : ℕ) → ltb 0 (b + a) || (eqb b a && (false || eqb b 0)) ≡ true
 across a b = go (ltb 0 (b + a)) refl
@@ -69,54 +65,29 @@ both_zero a b p q =
     let x : b ≡ a = omega arith in
     rw (eq-eqb b a x, eq-eqb b 0 q)
 
--- ---- order
+-- ---- order: the library's laws, of tests that are written as equations
 pub le_self : (x : Float) → is_nan x ≡ false → le x x ≡ true
-unfolding le is_nan
-le_self nan e = never' e
-le_self (inf true) e = refl
-le_self (inf false) e = refl
-le_self (fin true m x) e = tri (m * up x * down x) (m * up x * down x) (not_below_self (m * up x * down x))
-le_self (fin false m x) e = tri (m * up x * down x) (m * up x * down x) (not_below_self (m * up x * down x))
+le_self x e = is_true (le x x) (le_refl x (T_from_false (is_nan x) e))
 
 pub le_of_not_lt : (x y : Float) → is_nan x ≡ false → is_nan y ≡ false → lt x y ≡ false → le y x ≡ true
-unfolding le is_nan
-le_of_not_lt nan y p q e = never' p
-le_of_not_lt (inf s) nan p q e = never' q
-le_of_not_lt (inf true) (inf true) p q e = refl
-le_of_not_lt (inf true) (inf false) p q e = never' e
-le_of_not_lt (inf false) (inf true) p q e = refl
-le_of_not_lt (inf false) (inf false) p q e = refl
-le_of_not_lt (inf true) (fin t n d) p q e = never' e
-le_of_not_lt (inf false) (fin t n d) p q e = refl
-le_of_not_lt (fin s m x) nan p q e = never' q
-le_of_not_lt (fin s m x) (inf true) p q e = refl
-le_of_not_lt (fin s m x) (inf false) p q e = never' e
-le_of_not_lt (fin false m x) (fin false n d) p q e = tri (m * up x * down d) (n * up d * down x) e
-le_of_not_lt (fin false m x) (fin true n d) p q e = across (m * up x * down d) (n * up d * down x)
-le_of_not_lt (fin true m x) (fin false n d) p q e =
-    let h = ltb-false 0 (m * up x * down d + n * up d * down x) e in
-    both_zero (m * up x * down d) (n * up d * down x) (omega arith) (omega arith)
-le_of_not_lt (fin true m x) (fin true n d) p q e = tri' (n * up d * down x) (m * up x * down d) e
+le_of_not_lt x y p q e =
+    is_true (le y x) (le_of_not-lt x y (T_from_false (is_nan x) p) (T_from_false (is_nan y) q) (T_from_false (lt x y) e))
 
 pub le_of_lt : (x y : Float) → lt x y ≡ true → le x y ≡ true
-unfolding le
-le_of_lt x y e = rw e
+le_of_lt x y e = is_true (le x y) (law.le_of_lt x y (T_from_true (lt x y) e))
+
+pub le_trans : (x y z : Float) → le x y ≡ true → le y z ≡ true → le x z ≡ true
+le_trans x y z p q = is_true (le x z) (law.le_trans x y z (T_from_true (le x y) p) (T_from_true (le y z) q))
+
+-- what is at most y is not above it
+pub le_not_lt : (x y : Float) → le x y ≡ true → lt y x ≡ false
+le_not_lt x y p = is_false (lt y x) (not_T (lt y x) (λ h. lt_irrefl x (lt_of_le_of_lt x y x (T_from_true (le x y) p) h)))
 
 pub left_number : (x y : Float) → le x y ≡ true → is_nan x ≡ false
-unfolding le is_nan
-left_number nan y e = never e
-left_number (inf s) y e = refl
-left_number (fin s m x) y e = refl
+left_number x y e = is_false (is_nan x) (le_left x y (T_from_true (le x y) e))
 
 pub right_number : (x y : Float) → le x y ≡ true → is_nan y ≡ false
-unfolding le is_nan
-right_number nan y e = never e
-right_number (inf s) nan e = never e
-right_number (inf s) (inf t) e = refl
-right_number (inf s) (fin t n d) e = refl
-right_number (fin s m x) nan e = never e
-right_number (fin s m x) (inf t) e = refl
-right_number (fin s m x) (fin t n d) e = refl
+right_number x y e = is_false (is_nan y) (le_right x y (T_from_true (le x y) e))
 
 pub finite_number : (x : Float) → finite x ≡ true → is_nan x ≡ false
 unfolding finite is_nan
@@ -309,7 +280,7 @@ ne_self (inf false) = refl
 ne_self (fin true m x) = rw (eqb_self (m * up x * down x))
 ne_self (fin false m x) = rw (eqb_self (m * up x * down x))
 
--- ---- least and greatest by the tests of the code
+-- ---- least and greatest where the second is NaN
 pub nan_is : (x : Float) → is_nan x ≡ true → x ≡ nan
 unfolding is_nan
 nan_is nan e = refl
@@ -328,33 +299,13 @@ module _ (a b : Float) where
   other p true e = nan_is b p ∙ sym (nan_is a e)
   other p false e = refl
 
-  same_either : (n : Bool) → cond n b b ≡ b
-  same_either true = refl
-  same_either false = refl
-
-  pub least_nan : ne b b ≡ true → least a b ≡ a
+  pub least_nan : is_nan b ≡ true → least a b ≡ a
   unfolding least
-  least_nan p = let q = sym (ne_self b) ∙ p in rw q (other q (is_nan a) refl)
+  least_nan p = rw p (other p (is_nan a) refl)
 
-  pub least_below : lt a b ≡ true → least a b ≡ a
-  unfolding least
-  least_below p = rw (lt_left a b p, lt_right a b p, p)
-
-  pub least_not_below : ne b b ≡ false → lt a b ≡ false → least a b ≡ b
-  unfolding least
-  least_not_below p q = rw (sym (ne_self b) ∙ p, q) (same_either (is_nan a))
-
-  pub greatest_nan : ne b b ≡ true → greatest a b ≡ a
+  pub greatest_nan : is_nan b ≡ true → greatest a b ≡ a
   unfolding greatest
-  greatest_nan p = let q = sym (ne_self b) ∙ p in rw q (other q (is_nan a) refl)
-
-  pub greatest_above : lt b a ≡ true → greatest a b ≡ a
-  unfolding greatest
-  greatest_above p = rw (lt_right b a p, lt_left b a p, p)
-
-  pub greatest_not_above : ne b b ≡ false → lt b a ≡ false → greatest a b ≡ b
-  unfolding greatest
-  greatest_not_above p q = rw (sym (ne_self b) ∙ p, q) (same_either (is_nan a))
+  greatest_nan p = rw p (other p (is_nan a) refl)
 
 -- ---- equal, below and above exclude each other, and one of them holds of numbers
 or_false : (p q : Bool) → p || q ≡ true → q ≡ false → p ≡ true
@@ -365,55 +316,15 @@ pub and_right : (p q : Bool) → p && q ≡ true → q ≡ true
 and_right true q e = e
 and_right false q e = never e
 
-level_zero : (a b : ℕ) → eqb a b && (false || eqb a 0) ≡ true → ltb 0 (a + b) ≡ false
-level_zero a b e =
-    let p = eqb-true a b (and_left (eqb a b) (false || eqb a 0) e) in
-    let q = eqb-true a 0 (and_right (eqb a b) (false || eqb a 0) e) in
-    le-ltb 0 (a + b) (omega arith)
-
-level_same : (a b : ℕ) → eqb a b && true ≡ true → ltb a b ≡ false
-level_same a b e = let p = eqb-true a b (and_left (eqb a b) true e) in le-ltb a b (omega arith)
-
-level_same' : (a b : ℕ) → eqb a b && true ≡ true → ltb b a ≡ false
-level_same' a b e = let p = eqb-true a b (and_left (eqb a b) true e) in le-ltb b a (omega arith)
-
 pub equal_not_below : (x y : Float) → eq x y ≡ true → lt x y ≡ false
-unfolding eq lt
-equal_not_below nan y e = never e
-equal_not_below (inf s) nan e = never e
-equal_not_below (inf true) (inf true) e = refl
-equal_not_below (inf true) (inf false) e = never e
-equal_not_below (inf false) (inf t) e = refl
-equal_not_below (inf s) (fin t n d) e = never e
-equal_not_below (fin s m x) nan e = never e
-equal_not_below (fin s m x) (inf t) e = never e
-equal_not_below (fin false m x) (fin false n d) e = level_same (m * up x * down d) (n * up d * down x) e
-equal_not_below (fin false m x) (fin true n d) e = refl
-equal_not_below (fin true m x) (fin false n d) e = level_zero (m * up x * down d) (n * up d * down x) e
-equal_not_below (fin true m x) (fin true n d) e = level_same' (m * up x * down d) (n * up d * down x) e
-
-level_zero' : (a b : ℕ) → eqb a b && (false || eqb a 0) ≡ true → ltb 0 (b + a) ≡ false
-level_zero' a b e =
-    let p = eqb-true a b (and_left (eqb a b) (false || eqb a 0) e) in
-    let q = eqb-true a 0 (and_right (eqb a b) (false || eqb a 0) e) in
-    le-ltb 0 (b + a) (omega arith)
+equal_not_below x y e = is_false (lt x y) (not_T (lt x y) (eq-not_lt x y (T_from_true (eq x y) e)))
 
 pub equal_not_above : (x y : Float) → eq x y ≡ true → lt y x ≡ false
-unfolding eq lt
-equal_not_above nan y e = never e
-equal_not_above (inf s) nan e = never e
-equal_not_above (inf true) (inf true) e = refl
-equal_not_above (inf true) (inf false) e = never e
-equal_not_above (inf false) (inf true) e = never e
-equal_not_above (inf false) (inf false) e = refl
-equal_not_above (inf s) (fin t n d) e = never e
-equal_not_above (fin s m x) nan e = never e
-equal_not_above (fin s m x) (inf t) e = never e
-equal_not_above (fin false m x) (fin false n d) e = level_same' (m * up x * down d) (n * up d * down x) e
-equal_not_above (fin false m x) (fin true n d) e = level_zero' (m * up x * down d) (n * up d * down x) e
-equal_not_above (fin true m x) (fin false n d) e = refl
-equal_not_above (fin true m x) (fin true n d) e = level_same (m * up x * down d) (n * up d * down x) e
+equal_not_above x y e = is_false (lt y x) (not_T (lt y x) (eq-not_lt y x (eq_flip x y (T_from_true (eq x y) e))))
 
 pub otherwise_below : (x y : Float) → is_nan x ≡ false → is_nan y ≡ false → eq x y ≡ false → lt y x ≡ false → lt x y ≡ true
 unfolding le
 otherwise_below x y p q e h = or_false (lt x y) (eq x y) (le_of_not_lt y x q p h) e
+
+-- by which a test for 0 and one for above 0 tell what is below
+pub ruleset zero_tests = (zero_number, equal_not_above, equal_not_below, otherwise_below)

@@ -3,12 +3,12 @@
 use mathlib.Core.Path.{◌≡◌, refl, sym, ap, ◌∙◌, subst}
 use mathlib.Core.Bool.{Bool, true, false, not, cond, true≢false}
 use Prim.Native.Nat.{ℕ, zero, suc, ◌+◌, ◌-◌, ◌*◌, ◌/◌, ◌%◌, ◌^◌, ◌≤◌, ◌<◌}
-use native.Mathlib.Nat.{le_trans, le_of_eq, lt_of_lt_of_le, lt_of_le_of_lt, lt_of_not-le, le_of_suc-le-suc, mul-one, mul_assoc, mul_comm}
+use native.Mathlib.Nat.{le_trans, le_of_eq, lt_of_lt_of_le, lt_of_le_of_lt, lt_of_not-le, le_of_suc-le-suc, mul_assoc, mul_comm}
 use native.Mathlib.Nat.{mul_right_comm, add-mul, mul-pos, mul-le-mul_right, mul-lt-mul_of_pos_right, lt_of_mul-lt-mul_right, eq_of_mul-eq-mul_right}
 use native.Mathlib.Nat.{mod-lt, mod-eq_of_lt, div-add-mod', mul-add-mod_self_right}
 use native.Mathlib.Omega.{arith}
+use Rattle.std.proofs.lemmas.Nat.{mul-mod_first}
 use lib.Dec.{T, leb, ltb, eqb, leb→le, nleb→lt}
-use lib.IntN.{negsuc}
 use lib.Pow.{pow-add, pow_pos, pow_mono, shl_lt}
 use borrow.Author.Tests.{lt-ltb, lt-leb}
 use lib.Ieee.{Float, nan, inf, fin, Format, binary32, low, prec, emax, up, down, odd, units, lt, round, of_bits, of_fields, rem, div}
@@ -18,16 +18,10 @@ use lib.Ieee.Scale.{round_same}
 use Rattle.arithmetic.specs.Constants.{tau, ◌%ᶠ◌}
 use Rattle.arithmetic.specs.Order.{size, finite}
 use Rattle.arithmetic.proofs.Bounds.{never, never'}
+use Rattle.arithmetic.proofs.Rounding.{tau_is}
 use Rattle.arithmetic.proofs.root.Patterns.{of_bits_is, normal_value, subnormal_value}
 
 -- ---- remainders of products
-pub reduced_first : (a c t : ℕ) → a % t * c % t ≡ a * c % t
-reduced_first a c t =
-    sym
-    (ap (λ (x : ℕ). x * c % t) (sym (div-add-mod' a t))
-    ∙ ap (λ (x : ℕ). x % t) (add-mul (a / t * t) (a % t) c ∙ ap (λ (x : ℕ). x + a % t * c) (mul_right_comm (a / t) t c))
-    ∙ mul-add-mod_self_right (a / t * c) t (a % t * c))
-
 common_factor : (a t d : ℕ) → 0 < t → 0 < d → a * d % (t * d) ≡ a % t * d
 common_factor a t d P D =
     ap (λ (x : ℕ). x * d % (t * d)) (sym (div-add-mod' a t))
@@ -36,10 +30,6 @@ common_factor a t d P D =
     ∙ mod-eq_of_lt (mul-lt-mul_of_pos_right (mod-lt a P) D)
 
 -- ---- TAU
-tau_is : tau ≡ fin false 13176795 (negsuc 20)
-unfolding of_bits
-tau_is = refl
-
 by_tau : (s : Bool) (a b d : ℕ) → 0 < d → s ≡ false → a * 0x200000 ≡ b * d →
     round binary32 s (a * 0x200000 % (13176795 * d)) (d * 0x200000) ≡ round binary32 false (b % 13176795) 0x200000
 by_tau s a b d D e h =
@@ -167,25 +157,22 @@ whole_units b lo hi =
     in_units_lem (of_bits binary32 b) (m * 2 ^ k)
     (subst (λ (a : ℕ). HasValue (of_bits binary32 b) false a (2 ^ 149)) e (normal_value b m (k + 128) hi (omega arith) (omega arith)))
 
--- ---- the loop: x, doubled n times more
-abbrev pub Left : ℕ → ℕ → ℕ → Type 0
-Left b x n = (x < 13176795) × (x * 2 ^ n % 13176795 ≡ (b % 0x800000 + 0x800000) * 2 ^ (b / 0x800000 - 129) % 13176795)
+-- ---- the loop: the significand, doubled i times
+abbrev pub Doubled : ℕ → ℕ → ℕ → Type 0
+Doubled b x i = x ≡ (b % 0x800000 + 0x800000) * 2 ^ i % 13176795
 
-pub left_first : (b : ℕ) → Left b ((b % 0x800000 + 0x800000) % 13176795) (b / 0x800000 - 129)
-left_first b = (mod-lt (b % 0x800000 + 0x800000) (omega arith), reduced_first (b % 0x800000 + 0x800000) (2 ^ (b / 0x800000 - 129)) 13176795)
+pub below_tau_units : (b x i : ℕ) → Doubled b x i → x < 13176795
+below_tau_units b x i h = lt_of_le_of_lt (le_of_eq h) (mod-lt ((b % 0x800000 + 0x800000) * 2 ^ i) (omega arith))
 
-pub left_next : (b x n : ℕ) → 0 < n → Left b x n → Left b (x * 2 % 13176795) (n - 1)
-left_next b x n p h =
-    let e : 1 + (n - 1) ≡ n = omega arith in (
-      mod-lt (x * 2) (omega arith),
-      reduced_first (x * 2) (2 ^ (n - 1)) 13176795
-          ∙ ap (λ (y : ℕ). y % 13176795) (mul_assoc x 2 (2 ^ (n - 1)) ∙ ap (λ (y : ℕ). x * y) (sym (pow-add 2 1 (n - 1)) ∙ ap (λ (y : ℕ). 2 ^ y) e))
-          ∙ h.1,
-    )
+pub doubled_once_more : (b x i : ℕ) → Doubled b x i → Doubled b (x * 2 % 13176795) (i + 1)
+doubled_once_more b x i h =
+    let m = b % 0x800000 + 0x800000 in
+    ap (λ (y : ℕ). y * 2 % 13176795) h
+    ∙ mul-mod_first (m * 2 ^ i) 2 13176795
+    ∙ ap (λ (y : ℕ). y % 13176795) (mul_assoc m (2 ^ i) 2 ∙ ap (λ (y : ℕ). m * y) (sym (pow-add 2 i 1)))
 
-pub left_none : (b x n : ℕ) → n ≡ 0 → Left b x n → 0x40800000 ≤ b → b < 0x7f800000 → (y : Float) → HasValue y false x 1
+pub all_doubled :
+    (b x i : ℕ) → i ≡ b / 0x800000 - 129 → Doubled b x i → 0x40800000 ≤ b → b < 0x7f800000 → (y : Float) → HasValue y false x 1
     → div binary32 y (of_bits binary32 0x4a000000) ≡ rem binary32 (of_bits binary32 b) tau
-left_none b x n z h lo hi y v =
-    let e : x ≡ (b % 0x800000 + 0x800000) * 2 ^ (b / 0x800000 - 129) % 13176795 =
-    sym (ap (λ (k : ℕ). x * 2 ^ k % 13176795) z ∙ ap (λ (k : ℕ). k % 13176795) (mul-one x) ∙ mod-eq_of_lt h.0) ∙ h.1 in
-    over_units y x v ∙ ap (λ (k : ℕ). round binary32 false k 0x200000) e ∙ sym (rem_whole (of_bits binary32 b) _ (whole_units b lo hi))
+all_doubled b x i z h lo hi y v =
+    over_units y x v ∙ ap (λ (k : ℕ). round binary32 false k 0x200000) (rw z at h) ∙ sym (rem_whole (of_bits binary32 b) _ (whole_units b lo hi))

@@ -20,7 +20,7 @@ use Rattle.arithmetic.proofs.Bounds.{never}
 use Rattle.arithmetic.proofs.root.Patterns.{same_value}
 
 -- ---- a value in units of 2 ^ -149: m * 2 ^ j
-place : (m : ℕ) (e : ℤ) → down e ≤ 2 ^ 149 → (j : ℕ) × (m * up e * 2 ^ 149 ≡ m * 2 ^ j * down e)
+pub place : (m : ℕ) (e : ℤ) → down e ≤ 2 ^ 149 → (j : ℕ) × (m * up e * 2 ^ 149 ≡ m * 2 ^ j * down e)
 place m (pos a) h = (a + 149, mul_assoc m (2 ^ a) (2 ^ 149) ∙ ap (λ (x : ℕ). m * x) (sym (pow-add 2 a 149)) ∙ sym (mul-one (m * 2 ^ (a + 149))))
 place m (negsuc a) h =
     let l : suc a ≤ 149 =
@@ -55,7 +55,7 @@ module _ (s : Bool) (m : ℕ) (e : ℤ) (h : T (fits binary32 (fin s (suc m) e))
   first_three : T (is_odd (suc m) && few (suc m) && coarse e)
   first_three = and_l (is_odd (suc m) && few (suc m) && coarse e) (bounded (suc m) e) parts
 
-  few_digits : suc m < 2 ^ 24
+  pub few_digits : suc m < 2 ^ 24
   few_digits = ltb→lt (suc m) (2 ^ 24) (and_r (is_odd (suc m)) (few (suc m)) (and_l (is_odd (suc m) && few (suc m)) (coarse e) first_three))
 
   pub not_too_small : down e ≤ 2 ^ 149
@@ -83,7 +83,7 @@ round_own s (suc m) e c h C =
     (subst (λ (x : ℕ). suc m * 2 ^ p.0 < x) (sym (pow-add 2 149 128))
     (below_top (suc m * up e) (suc m * 2 ^ p.0) (down e) (2 ^ 149) (2 ^ 128) (down_pos e) (pow_pos 149) p.1 (not_too_large s m e h)))
 
-tau_is : tau ≡ fin false 13176795 (negsuc 20)
+pub tau_is : tau ≡ fin false 13176795 (negsuc 20)
 unfolding of_bits
 tau_is = refl
 

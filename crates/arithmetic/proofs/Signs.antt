@@ -9,8 +9,9 @@ use lib.IntN.{ℤ}
 use borrow.Author.Tests.{le-leb, lt-leb}
 use lib.Ieee.{Float, nan, inf, fin, binary32, fits, is_nan, neg, of_bits, to_bits}
 use lib.Ieee.Bits.{of_bits-to_bits, to_bits-lt}
-use Rattle.arithmetic.specs.Order.{size, negative}
-use Rattle.arithmetic.proofs.Bounds.{never'}
+use Rattle.std.specs.Float.{is_sign_negative, float_is_finite}
+use Rattle.arithmetic.specs.Order.{finite, size, negative}
+use Rattle.arithmetic.proofs.Bounds.{never, never'}
 
 any_sign : (s t : Bool) (m : ℕ) (e : ℤ) → T (fits binary32 (fin s m e)) → T (fits binary32 (fin t m e))
 unfolding fits
@@ -65,6 +66,37 @@ unfolding negative is_nan
 sign_bit nan h n = never' n
 sign_bit (inf s) h n = infinite_sign s
 sign_bit (fin s m e) h n = ap (leb 0x80000000) (sign_apart s m e) ∙ stands s (to_bits binary32 (fin false m e)) (below_sign s m e h)
+
+-- the library's test for the sign is the definition's
+pub negative_is : (v : Float) → is_sign_negative v ≡ negative v
+unfolding is_sign_negative negative
+negative_is nan = refl
+negative_is (inf s) = refl
+negative_is (fin s m e) = refl
+
+pub nan_unsigned : (v : Float) → is_nan v ≡ true → negative v ≡ false
+unfolding negative is_nan
+nan_unsigned nan e = refl
+nan_unsigned (inf s) e = never e
+nan_unsigned (fin s m e) h = never h
+
+pub nan_size : (v : Float) → is_nan v ≡ true → size v ≡ v
+unfolding size is_nan
+nan_size nan e = refl
+nan_size (inf s) e = never e
+nan_size (fin s m e) h = never h
+
+-- the pattern that the language gives to its NaN
+pub nan_pattern : of_bits binary32 0x7fc00000 ≡ nan
+unfolding of_bits
+nan_pattern = refl
+
+-- and its finite test is
+pub finite_is : (v : Float) → float_is_finite v ≡ finite v
+unfolding float_is_finite finite
+finite_is nan = refl
+finite_is (inf s) = refl
+finite_is (fin s m e) = refl
 
 pub size_number : (v : Float) → is_nan v ≡ false → is_nan (size v) ≡ false
 unfolding size is_nan

@@ -1,20 +1,22 @@
--- A rounded sum grows with each of its terms, and the order of floats is transitive.
+-- A rounded sum grows with each of its terms.
 use mathlib.Core.Path.{◌≡◌, refl, sym, ap, ◌∙◌, subst}
 use mathlib.Core.Bool.{Bool, true, false, cond, not, ◌&&◌, ◌||◌}
 use Prim.Native.Nat.{ℕ, zero, suc, ◌+◌, ◌-◌, ◌*◌, ◌^◌, ◌<◌, ◌≤◌}
-use native.Mathlib.Nat.{zero-mul, mul-pos, mul_assoc, mul_comm, mul_left_comm, add-mul, mul-le-mul_right, le_of_mul-le-mul_right}
+use native.Mathlib.Nat.{zero-mul, mul-pos, mul_assoc, mul_comm, mul_left_comm, add-mul, mul-le-mul_right}
 use native.Mathlib.Omega.{arith}
-use lib.Dec.{T, ltb, eqb}
+use lib.Dec.{ltb, eqb}
 use lib.IntN.{ℤ}
 use borrow.Author.Tests.{ltb-true, ltb-false, eqb-true, le-ltb}
 use lib.Ieee as Ieee
 use lib.Ieee.{Float, nan, inf, fin, Format, prec, low, binary32, of_bits, up, down, lt, le, eq, ne, neg, is_nan, below, level, round, units, odd, sum, size}
+use lib.Ieee.Bits.{is_true}
 use lib.Ieee.Fits.{down_pos, round_is}
 use lib.Ieee.Order.{round_mono}
 use lib.Ieee.Scale.{round_same}
 use Rattle.arithmetic.specs.Order.{finite}
+pub use Rattle.arithmetic.proofs.Bounds.{le_trans, le_not_lt}
 use Rattle.arithmetic.proofs.Bounds.{tri, tri', across, both_zero, product_zero, between, AtLeastZero, an_inf, plain, never}
-use Rattle.arithmetic.proofs.Bounds.{never', and_left, right_number}
+use Rattle.arithmetic.proofs.Bounds.{never', and_left, and_right}
 
 -- ---- a signed number as a difference
 abbrev pub above : Bool → ℕ → ℕ
@@ -28,10 +30,6 @@ under true a = a
 or_cases : (a b : Bool) → a || b ≡ true → {A : Type 0} → (a ≡ true → A) → (b ≡ true → A) → A
 or_cases true b e f h = f refl
 or_cases false b e f h = h e
-
-and_right : (a b : Bool) → a && b ≡ true → b ≡ true
-and_right true b e = e
-and_right false b e = never e
 
 pub cross_of : (s t : Bool) (a b : ℕ) → below s a t b || level s a t b ≡ true → above s a + under t b ≤ above t b + under s a
 cross_of false false a b e =
@@ -74,65 +72,6 @@ uncross s t m n e d h =
     of_cross s t (m * up e * down d) (n * up d * down e)
     (rw (above_mul s (m * up e) (down d), under_mul t (n * up d) (down e), above_mul t (n * up d) (down e), under_mul s (m * up e) (down d)) at h)
 
--- ---- transitivity
-through : (xp xn dx yp yn dy zp zn dz : ℕ) → 0 < dy → xp * dy + yn * dx ≤ yp * dx + xn * dy → yp * dz + zn * dy ≤ zp * dy + yn * dz →
-    xp * dz + zn * dx ≤ zp * dx + xn * dz
-through xp xn dx yp yn dy zp zn dz D p q =
-    let a = simp (add-mul, mul_assoc, mul_comm, mul_left_comm) at (mul-le-mul_right dz p) in
-    let b = simp (add-mul, mul_assoc, mul_comm, mul_left_comm) at (mul-le-mul_right dx q) in
-    le_of_mul-le-mul_right (simp (add-mul, mul_assoc, mul_comm, mul_left_comm) (omega arith)) D
-
-inf_least : (z : Float) → is_nan z ≡ false → le (inf true) z ≡ true
-unfolding le is_nan
-inf_least nan e = never' e
-inf_least (inf true) e = refl
-inf_least (inf false) e = refl
-inf_least (fin s m x) e = refl
-
-pub le_trans : (x y z : Float) → le x y ≡ true → le y z ≡ true → le x z ≡ true
-unfolding le
-le_trans nan y z p q = never p
-le_trans (inf true) y z p q = inf_least z (right_number y z q)
-le_trans (inf false) nan z p q = never p
-le_trans (inf false) (inf true) z p q = never p
-le_trans (inf false) (inf false) z p q = q
-le_trans (inf false) (fin t n d) z p q = never p
-le_trans (fin s m e) nan z p q = never p
-le_trans (fin s m e) (inf true) z p q = never p
-le_trans (fin s m e) (inf false) nan p q = never q
-le_trans (fin s m e) (inf false) (inf true) p q = never q
-le_trans (fin s m e) (inf false) (inf false) p q = refl
-le_trans (fin s m e) (inf false) (fin u k c) p q = never q
-le_trans (fin s m e) (fin t n d) nan p q = never q
-le_trans (fin s m e) (fin t n d) (inf true) p q = never q
-le_trans (fin s m e) (fin t n d) (inf false) p q = refl
-le_trans (fin s m e) (fin t n d) (fin u k c) p q =
-    uncross s u m k e c
-    (through (above s (m * up e)) (under s (m * up e)) (down e) (above t (n * up d)) (under t (n * up d)) (down d) (above u (k * up c))
-    (under u (k * up c)) (down c) (down_pos d) (cross s t m n e d p) (cross t u n k d c q))
-
--- what is at most y is not above it
-pub le_not_lt : (x y : Float) → le x y ≡ true → lt y x ≡ false
-unfolding le lt
-le_not_lt nan y p = never p
-le_not_lt (inf s) nan p = never p
-le_not_lt (inf true) (inf true) p = refl
-le_not_lt (inf true) (inf false) p = refl
-le_not_lt (inf false) (inf true) p = never p
-le_not_lt (inf false) (inf false) p = refl
-le_not_lt (inf true) (fin t n d) p = refl
-le_not_lt (inf false) (fin t n d) p = never p
-le_not_lt (fin s m e) nan p = never p
-le_not_lt (fin s m e) (inf true) p = never p
-le_not_lt (fin s m e) (inf false) p = refl
-le_not_lt (fin s m e) (fin t n d) p = go s t (m * up e * down d) (n * up d * down e) (cross_of s t (m * up e * down d) (n * up d * down e) p)
-  where
-    go : (s t : Bool) (a b : ℕ) → above s a + under t b ≤ above t b + under s a → below t b s a ≡ false
-    go false false a b h = le-ltb b a (omega arith)
-    go false true a b h = le-ltb 0 (b + a) (omega arith)
-    go true false a b h = refl
-    go true true a b h = le-ltb a b (omega arith)
-
 -- ---- rounding and signs
 odd_neg : (d q k l : ℕ) → odd d true q k l ≡ neg (odd d false q k l)
 unfolding odd neg
@@ -165,10 +104,6 @@ units_plain f q k = go (ltb (q * 2 ^ k) (2 ^ (low f + suc (Ieee.emax f))))
 
 pub round_plain : (f : Format) (n c : ℕ) → AtLeastZero (round f false n c)
 round_plain f n c = subst AtLeastZero (sym (round_is f false n c)) (units_plain f _ _)
-
-pub holds : (b : Bool) → T b → b ≡ true
-holds true t = refl
-holds false t = absurd t
 
 -- -y ≤ -x for x ≤ y
 pub le_neg : (x y : Float) → le x y ≡ true → le (neg y) (neg x) ≡ true
@@ -215,7 +150,7 @@ rounds_mono : (r r' : Float) (p q c p' q' c' : ℕ) → 0 < c → 0 < c' → Rou
     p * c' + q' * c ≤ p' * c + q * c' → le r r' ≡ true
 rounds_mono r r' p q c p' q' c' C C' (more n e i) (more n' e' i') h =
     let g = simp add-mul at (rw (e, e') at h) in
-    rw (i, i') (holds _ (round_mono binary32 n c n' c' C C' (omega arith)))
+    rw (i, i') (is_true _ (round_mono binary32 n c n' c' C C' (omega arith)))
 rounds_mono r r' p q c p' q' c' C C' (more n e i) (less n' e' i') h =
     let g = simp add-mul at (rw (e, e') at h) in
     let a : n ≡ 0 = product_zero n c' C' (omega arith) in
@@ -226,7 +161,7 @@ rounds_mono r r' p q c p' q' c' C C' (less n e i) (more n' e' i') h =
 rounds_mono r r' p q c p' q' c' C C' (less n e i) (less n' e' i') h =
     let g = simp add-mul at (rw (e, e') at h) in
     rw (i, i', round_neg binary32 n c, round_neg binary32 n' c')
-    (le_neg _ _ (holds _ (round_mono binary32 n' c' n c C' C (omega arith))))
+    (le_neg _ _ (is_true _ (round_mono binary32 n' c' n c C' C (omega arith))))
 
 pub sum_rounds : (f : Format) (s : Bool) (a : ℕ) (t : Bool) (b c : ℕ) → Rounds f (sum f s a t b c) (above s a + above t b) (under s a + under t b) c
 unfolding sum

@@ -10,6 +10,7 @@ use lib.IntN.{ℤ}
 use lib.Pow.{pow-add, pow_pos, pow_mono}
 use lib.Ieee as Ieee
 use lib.Ieee.{Float, nan, inf, fin, binary32, up, down, round, sum, add, sub, mul, div, neg, lt, le, is_nan, fits, of_bits}
+use lib.Ieee.Bits.{is_true}
 use lib.Ieee.Fits.{up_pos, down_pos}
 use lib.Ieee.Exact.{HasValue, round_exact}
 use lib.Ieee.Order.{round_mono}
@@ -19,7 +20,7 @@ use borrow.Author.Tests.{ltb-true, ltb-false, lt-ltb}
 use Rattle.arithmetic.specs.Constants.{◌+ᶠ◌, ◌-ᶠ◌, ◌·ᶠ◌, ◌/ᶠ◌, n0, n1}
 use Rattle.arithmetic.specs.Order.{finite}
 use Rattle.arithmetic.proofs.Bounds.{never, never', AtLeastZero, an_inf, plain, minus_zero_lem}
-use Rattle.arithmetic.proofs.Sums.{above, under, cross_of, round_neg, round_plain, Rounds, more, less, sum_rounds, holds}
+use Rattle.arithmetic.proofs.Sums.{above, under, cross_of, round_neg, round_plain, Rounds, more, less, sum_rounds}
 use Rattle.arithmetic.proofs.Rounding.{not_too_large}
 
 -- finite, and at most b / q in size
@@ -119,7 +120,7 @@ le_within (fin true n d) b q p v t = absurd (true≢false v.0)
 le_within (fin false n d) b q an_inf v t = absurd t
 le_within (fin false n d) b q (minus_zero_lem e) v t = le_trans (le_of_eq (ap (λ (x : ℕ). x * q) (zero-mul (up e)) ∙ zero-mul q)) (omega arith)
 le_within (fin false n d) b q (plain m e) v t =
-    let h : m * up e * down d + 0 ≤ n * up d * down e + 0 = cross_of false false (m * up e * down d) (n * up d * down e) (holds _ t) in
+    let h : m * up e * down d + 0 ≤ n * up d * down e + 0 = cross_of false false (m * up e * down d) (n * up d * down e) (is_true _ t) in
     through (m * up e) (n * up d) b (down e) (down d) q (down_pos d) (omega (arith, h)) (le_of_eq v.1)
 
 -- above one
@@ -130,11 +131,11 @@ le_least (inf s) b q p B v t = absurd v
 le_least (fin true n d) b q p B v t = absurd (true≢false v.0)
 le_least (fin false n d) b q an_inf B v t = tt
 le_least (fin false n d) b q (minus_zero_lem e) B v t =
-    let h : n * up d * down e + 0 * up e * down d ≤ 0 = cross_of false true (n * up d * down e) (0 * up e * down d) (holds _ t) in
+    let h : n * up d * down e + 0 * up e * down d ≤ 0 = cross_of false true (n * up d * down e) (0 * up e * down d) (is_true _ t) in
     let g : n * up d * down e * q ≤ 0 = le_trans (mul-le-mul_right q (omega (arith, h))) (le_of_eq (zero-mul q)) in
     absurd (lt_irrefl 0 (lt_of_lt_of_le (mul-pos (mul-pos B (down_pos d)) (down_pos e)) (omega (arith, g, ap (λ (x : ℕ). x * down e) v.1))))
 le_least (fin false n d) b q (plain m e) B v t =
-    let h : n * up d * down e + 0 ≤ m * up e * down d + 0 = cross_of false false (n * up d * down e) (m * up e * down d) (holds _ t) in
+    let h : n * up d * down e + 0 ≤ m * up e * down d + 0 = cross_of false false (n * up d * down e) (m * up e * down d) (is_true _ t) in
     through b (n * up d) (m * up e) q (down d) (down e) (down_pos d) (le_of_eq (sym v.1)) (omega (arith, h))
 
 plain_within : (a c b q : ℕ) → 0 < c → 0 < q → Held b q → a * q ≤ b * c → Within b q (round binary32 false a c)

@@ -3,5 +3,5 @@ mod Squares
 mod Rounded
 pub mod Patterns
 mod Whole
+mod Operation
 mod Law
-mod Near

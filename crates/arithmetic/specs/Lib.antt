@@ -1,4 +1,4 @@
--- Document 01, "Arithmetic, the lowest crate", in its order. `Code` has the code's own steps.
+-- Document 01, "Arithmetic, the lowest crate", in its order.
 pub mod Constants
 pub mod Order
 pub mod Root
@@ -6,4 +6,3 @@ pub mod Vector
 pub mod Trigonometry
 pub mod Table
 pub mod Values
-pub mod Code

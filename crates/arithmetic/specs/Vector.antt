@@ -1,12 +1,14 @@
--- Length, dot, cross and normalise of document 01, over x (north) and y (east). Definitions only.
-use Rattle.std.specs.Prelude.{cond, Float}
+-- Difference, length, dot, cross and normalise of document 01, over x (north) and y (east). Definitions only.
+use Rattle.std.specs.Prelude.{cond, Float, Option, Some, None}
 use Rattle.std.specs.Float.Ieee as Ieee
 use Rattle.std.specs.Float.{binary32}
 use Rattle.arithmetic.specs.Constants.{◌+ᶠ◌, ◌-ᶠ◌, ◌·ᶠ◌, ◌/ᶠ◌}
 use Rattle.arithmetic.specs.Root.{root_of}
 use Rattle.arithmetic.specs.declared.vector.Vec2.{Vec2}
-use Rattle.arithmetic.specs.declared.vector.Normalised.{Normalised}
-use Rattle.arithmetic.specs.declared.vector.Normalised.TheVariants.{None, Parts}
+
+-- each part of a minus b's
+abbrev pub difference : Vec2 → Vec2 → Vec2
+difference a b = record { x = a.x -ᶠ b.x; y = a.y -ᶠ b.y }
 
 -- Length: root(x·x + y·y).
 unfoldable pub norm : Vec2 → Float
@@ -21,7 +23,7 @@ unfoldable pub cross : Vec2 → Vec2 → Float
 cross a b = a.x ·ᶠ b.y -ᶠ a.y ·ᶠ b.x
 
 -- Normalise: none if length <= floor, else each part / length.
-unfoldable pub normalise : Vec2 → Float → Normalised
+unfoldable pub normalise : Vec2 → Float → Option Vec2
 normalise v floor =
     let l = norm v in
-    cond (Ieee.le l floor) None (Parts (record { x = v.x /ᶠ l; y = v.y /ᶠ l }))
+    cond (Ieee.le l floor) None (Some (record { x = v.x /ᶠ l; y = v.y /ᶠ l }))

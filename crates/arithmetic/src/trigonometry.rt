@@ -9,17 +9,11 @@ ghost use Rattle.arithmetic.specs.Trigonometry as spec;
 
 use crate::order::{is_finite, is_negative, size};
 use crate::root::root;
-
-pub const PI: f32 = 3.1415927;
-
-pub const FRAC_PI_4: f32 = 0.7853982;
-
-pub const FRAC_PI_2: f32 = 1.5707964;
-
-pub const TAU: f32 = 6.2831855;
+pub use std::f32::consts::{FRAC_PI_2, FRAC_PI_4, PI, TAU};
 
 // Sine, z = a·a: a·(1 - z/6·(1 - z/20·(1 - z/42·(1 - z/72·(1 - z/110))))). The innermost quotient stands first, since all others
 // wait for it and divisions are done one after the other.
+#[tactic(auto, unfolding(crate::specs::Trigonometry::sine))]
 pub fn sine(a: f32) -> f32
     ensures { result ≡ spec.sine a }
 {
@@ -39,10 +33,8 @@ fn remainder(b: u32) -> f32
     ensures { result ≡ Ieee.rem binary32 (of_bits binary32 b) tau }
 {
     let mut x: u32 = (b % 0x80_0000 + 0x80_0000) % 13176795;
-    let mut n: u32 = b / 0x80_0000 - 129;
-    while n > 0 {
+    for _ in 0..b / 0x80_0000 - 129 {
         x = x * 2 % 13176795;
-        n -= 1;
     }
     (x as f32) / 2097152.0
 }
@@ -56,11 +48,12 @@ fn turned(r: f32) -> f32
     if u < TAU {
         u
     } else {
-        remainder(f32::to_bits(r) % 0x8000_0000)
+        remainder(r.to_bits() % 0x8000_0000)
     }
 }
 
 // Above PI, t becomes TAU - t.
+#[tactic(auto, unfolding(crate::specs::Trigonometry::folded))]
 fn folded(t: f32) -> f32
     ensures { result ≡ spec.folded t }
 {
@@ -68,6 +61,7 @@ fn folded(t: f32) -> f32
 }
 
 // With z = t·t, up to FRAC_PI_4: 1 - z/2·(1 - z/12·(1 - z/30·(1 - z/56))); above: sine(FRAC_PI_2 - t).
+#[tactic(auto, unfolding(crate::specs::Trigonometry::cosine_of_folded))]
 fn cosine_of_folded(t: f32) -> f32
     ensures { result ≡ spec.cosine_of_folded t }
 {
@@ -83,17 +77,19 @@ fn cosine_of_folded(t: f32) -> f32
 }
 
 // Cosine of r: NaN if r is not finite; t is the size of r % TAU.
+#[tactic(auto, using(crate::proofs::Signs::nan_pattern), unfolding(crate::specs::Trigonometry::cosine))]
 pub fn cosine(r: f32) -> f32
     ensures { result ≡ spec.cosine r }
 {
     if is_finite(r) {
         cosine_of_folded(folded(turned(r)))
     } else {
-        0.0 / 0.0
+        f32::NAN
     }
 }
 
 // Series(w), z = w·w: w·(1 - z·(1/3 - z·(1/5 - z·(1/7 - z·(1/9 - z·(1/11 - z·(1/13 - z·(1/15)))))))).
+#[tactic(auto, unfolding(crate::specs::Trigonometry::series))]
 fn series(w: f32) -> f32
     ensures { result ≡ spec.series w }
 {
@@ -106,6 +102,7 @@ fn series(w: f32) -> f32
 }
 
 // Part(u): series(u) up to 0.41421356, else FRAC_PI_4 + series((u - 1)/(u + 1)).
+#[tactic(auto, unfolding(crate::specs::Trigonometry::part))]
 fn part(u: f32) -> f32
     ensures { result ≡ spec.part u }
 {
@@ -117,6 +114,7 @@ fn part(u: f32) -> f32
 }
 
 // Of a size u: above 1, FRAC_PI_2 - part(1/u), else part(u).
+#[tactic(auto, unfolding(crate::specs::Trigonometry::arctangent_of_size))]
 pub fn arctangent_of_size(u: f32) -> f32
     ensures { result ≡ spec.arctangent_of_size u }
 {
@@ -128,26 +126,28 @@ pub fn arctangent_of_size(u: f32) -> f32
 }
 
 // Arctangent. The sign bit, 2^31, is taken off the number's bits and added to the result's, so that nothing branches on the sign nor
-// on a zero. The arctangent of a size has no sign: `%` changes nothing, and shows the compiler that nothing is carried. NaN is set
-// apart, since its bits are not defined.
+// on a zero (f32::copysign does, and takes twice the instructions). The arctangent of a size has no sign: `%` changes nothing, and shows
+// the compiler that nothing is carried. NaN is set apart, since its bits are not defined.
 pub fn arctangent(v: f32) -> f32
     ensures { result ≡ spec.arctangent v }
 {
-    if v != v {
+    if v.is_nan() {
         return v;
     }
-    let b: u32 = f32::to_bits(v);
-    let sign: u32 = b / 0x8000_0000 * 0x8000_0000;
+    let b = v.to_bits();
+    let sign = b / 0x8000_0000 * 0x8000_0000;
     let a = arctangent_of_size(f32::from_bits(b % 0x8000_0000));
-    f32::from_bits(f32::to_bits(a) % 0x8000_0000 + sign)
+    f32::from_bits(a.to_bits() % 0x8000_0000 + sign)
 }
 
+#[tactic(auto, unfolding(crate::specs::Trigonometry::arcsine))]
 pub fn arcsine(v: f32) -> f32
     ensures { result ≡ spec.arcsine v }
 {
     arctangent(v / root(1.0 - v * v))
 }
 
+#[tactic(auto, unfolding(crate::specs::Trigonometry::quarter_turn))]
 fn quarter_turn(y: f32) -> f32
     ensures { result ≡ spec.quarter_turn y }
 {
@@ -161,11 +161,12 @@ fn quarter_turn(y: f32) -> f32
     }
 }
 
+#[tactic(auto, using(crate::proofs::Signs::nan_pattern, crate::proofs::Bounds::zero_tests), unfolding(crate::specs::Trigonometry::arctangent2))]
 pub fn arctangent2(y: f32, x: f32) -> f32
     ensures { result ≡ spec.arctangent2 y x }
 {
-    if (y != y) | (x != x) {
-        return 0.0 / 0.0;
+    if y.is_nan() | x.is_nan() {
+        return f32::NAN;
     }
     if x == 0.0 {
         return quarter_turn(y);

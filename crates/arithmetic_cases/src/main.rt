@@ -2,169 +2,133 @@
 // tools/vectors/arithmetic.py makes the rows and says what is in one.
 #![tactic(auto)]
 
-ghost use Rattle.std.specs.Prelude.{◌≤◌, IfOk};
-
-use arithmetic::vector::{Normalised, Vec2};
-use arithmetic::{order, root, trigonometry, vector};
-use case_rows::{Count, bits, number_of, plus, print_count, read_full, word_of};
-use std::io::Read;
+use arithmetic::order::{clamp, greatest, is_finite, least, size};
+use arithmetic::root::root;
+use arithmetic::trigonometry::{arcsine, arctangent, arctangent2, cosine, sine};
+use arithmetic::vector::{Vec2, cross, dot, norm, normalise};
+use case_rows::{Count, Row, to_bits, try_group};
+use std::io;
 use std::rt::Files;
-use std::{fs, io};
 
-// A row's results: a number's bits or a truth, and the parts of a normalised vector after it.
+// The words of a row: its function's number, four arguments and three results.
+const WORDS: usize = 8;
+
+// The functions, in the order of their numbers in a row.
 #[derive(Clone, Copy)]
-struct Answer {
-    first: u32,
-    x: u32,
-    y: u32,
+enum Function {
+    Least,
+    Greatest,
+    Clamp,
+    Size,
+    Finite,
+    Root,
+    Norm,
+    Dot,
+    Cross,
+    Normalise,
+    Sine,
+    Cosine,
+    Arctangent,
+    Arcsine,
+    Arctangent2,
 }
 
-// Whether there was a row, and 1 if its answer was right.
-#[derive(Clone, Copy)]
-struct Tried {
-    found: bool,
-    right: u32,
+// The results of a row, where its function answers a number.
+fn number(x: f32) -> [u32; 3] {
+    [to_bits(x), 0, 0]
 }
 
-fn of_number(x: f32) -> Answer {
-    Answer {
-        first: bits(x),
-        x: 0,
-        y: 0,
+fn truth(b: bool) -> [u32; 3] {
+    [u32::from(b), 0, 0]
+}
+
+fn parts(v: Option<Vec2>) -> [u32; 3] {
+    match v {
+        None => [0, 0, 0],
+        Some(v) => [1, to_bits(v.x), to_bits(v.y)],
     }
 }
 
-fn of_truth(b: bool) -> Answer {
-    let first: u32 = if b { 1 } else { 0 };
-    Answer {
-        first: first,
-        x: 0,
-        y: 0,
-    }
-}
-
-fn of_parts(n: Normalised) -> Answer {
-    match n {
-        Normalised::None => Answer {
-            first: 0,
-            x: 0,
-            y: 0,
-        },
-        Normalised::Parts(v) => Answer {
-            first: 1,
-            x: bits(v.x),
-            y: bits(v.y),
-        },
-    }
-}
-
-// The functions by their numbers in a row.
-fn call(function: u32, a: f32, b: f32, c: f32, d: f32) -> Answer {
-    match function {
-        0 => of_number(order::least(a, b)),
-        1 => of_number(order::greatest(a, b)),
-        2 => of_number(order::clamp(a, b, c)),
-        3 => of_number(order::size(a)),
-        4 => of_truth(order::is_finite(a)),
-        5 => of_number(root::root(a)),
-        6 => of_number(vector::norm(Vec2 { x: a, y: b })),
-        7 => of_number(vector::dot(Vec2 { x: a, y: b }, Vec2 { x: c, y: d })),
-        8 => of_number(vector::cross(Vec2 { x: a, y: b }, Vec2 { x: c, y: d })),
-        9 => of_parts(vector::normalise(Vec2 { x: a, y: b }, c)),
-        10 => of_number(trigonometry::sine(a)),
-        11 => of_number(trigonometry::cosine(a)),
-        12 => of_number(trigonometry::arctangent(a)),
-        13 => of_number(trigonometry::arcsine(a)),
-        14 => of_number(trigonometry::arctangent2(a, b)),
-        _ => Answer {
-            first: 0,
-            x: 0,
-            y: 0,
-        },
-    }
-}
-
-// Four bytes from a place, low byte first.
-fn word(row: &[u8; 32], at: usize) -> u32
-    requires { at ≤ 28 }
+// Whether a row is of this function and has its answer.
+fn is_answer<A: Fn([f32; 4]) -> [u32; 3]>(row: &Row, function: Function, answer: &A) -> bool
+    requires { A.IsAlwaysCallable answer.now }
 {
-    word_of(row[at], row[at + 1], row[at + 2], row[at + 3])
+    row.words[0] == function as u32 && row.words(5) == answer(row.numbers(1))
 }
 
-fn is_right(row: &[u8; 32]) -> bool {
-    let a = number_of(word(row, 4));
-    let b = number_of(word(row, 8));
-    let c = number_of(word(row, 12));
-    let d = number_of(word(row, 16));
-    let got = call(word(row, 0), a, b, c, d);
-    (got.first == word(row, 20)) & (got.x == word(row, 24)) & (got.y == word(row, 28))
+// The rows that document 01 states are of four functions.
+fn is_stated(row: &Row) -> bool {
+    is_answer(row, Function::Least, &|[a, b, ..]| number(least(a, b)))
+        || is_answer(row, Function::Root, &|[a, ..]| number(root(a)))
+        || is_answer(row, Function::Cosine, &|[a, ..]| number(cosine(a)))
+        || is_answer(
+            row,
+            Function::Arctangent2,
+            &|[a, b, ..]| number(arctangent2(a, b)),
+        )
 }
 
-// Reads a row and tries it. A row that is cut short is not right.
-fn try_row<F: Read>(file: &mut F) -> io::Result<Tried>
-    ensures { IfOk result (λ tried. tried.right ≤ 1) }
+// Tries the rows of a file, which are all of one function.
+fn try_function<R: Files + Print + Eprint, A: Fn([f32; 4]) -> [u32; 3]>(
+    rt: &R,
+    name: &str,
+    function: Function,
+    answer: A,
+) -> io::Result<Count>
+    requires { A.IsAlwaysCallable answer }
 {
-    let mut row = [0u8; 32];
-    let n = read_full(file, &mut row)?;
-    if n == 32 {
-        if is_right(&row) {
-            return Ok(Tried {
-                found: true,
-                right: 1,
-            });
-        }
-    }
-    Ok(Tried {
-        found: n > 0,
-        right: 0,
-    })
-}
-
-// Tries the rows of a file, at most 100,000: a proved loop has to end.
-fn try_rows<F: Read>(file: &mut F) -> io::Result<Count> {
-    let mut rows: u32 = 0;
-    let mut right: u32 = 0;
-    let mut tried = try_row(file)?;
-    while rows < 100000 && tried.found {
-        rows += 1;
-        right += tried.right;
-        tried = try_row(file)?;
-    }
-    Ok(Count { rows, right })
-}
-
-// Tries the rows of one file, prints the count under the file's name, and adds it to the count before.
-fn try_group<R: Files + Print + Eprint>(rt: &R, name: &str, before: Count) -> io::Result<Count> {
-    let mut file = match fs::open(rt, name) {
-        Ok(file) => file,
-        Err(e) => {
-            eprintln!(rt; "{name}: {e}")?;
-            return Ok(before);
-        }
-    };
-    let count = try_rows(&mut file)?;
-    print_count(rt, name.as_bytes(), count)?;
-    Ok(plus(before, count))
+    try_group(rt, name, WORDS, |row| is_answer(row, function, &answer))
 }
 
 fn main(rt: HostRuntime) -> io::Result<()> {
-    let mut total = Count { rows: 0, right: 0 };
-    total = try_group(&rt, "document_01", total)?;
-    total = try_group(&rt, "root_published", total)?;
-    total = try_group(&rt, "least", total)?;
-    total = try_group(&rt, "greatest", total)?;
-    total = try_group(&rt, "clamp", total)?;
-    total = try_group(&rt, "size", total)?;
-    total = try_group(&rt, "finite", total)?;
-    total = try_group(&rt, "root", total)?;
-    total = try_group(&rt, "norm", total)?;
-    total = try_group(&rt, "dot", total)?;
-    total = try_group(&rt, "cross", total)?;
-    total = try_group(&rt, "normalise", total)?;
-    total = try_group(&rt, "sine", total)?;
-    total = try_group(&rt, "cosine", total)?;
-    total = try_group(&rt, "arctangent", total)?;
-    total = try_group(&rt, "arcsine", total)?;
-    total = try_group(&rt, "arctangent2", total)?;
-    print_count(&rt, b"total", total)
+    use Function::*;
+    let vec2 = |x, y| Vec2 { x, y };
+    let mut total = try_group(&rt, "document_01", WORDS, is_stated)?;
+    total += try_function(&rt, "root_published", Root, |[a, ..]| number(root(a)))?;
+    total += try_function(&rt, "least", Least, |[a, b, ..]| number(least(a, b)))?;
+    total += try_function(
+        &rt,
+        "greatest",
+        Greatest,
+        |[a, b, ..]| number(greatest(a, b)),
+    )?;
+    total += try_function(&rt, "clamp", Clamp, |[a, b, c, ..]| number(clamp(a, b, c)))?;
+    total += try_function(&rt, "size", Size, |[a, ..]| number(size(a)))?;
+    total += try_function(&rt, "finite", Finite, |[a, ..]| truth(is_finite(a)))?;
+    total += try_function(&rt, "root", Root, |[a, ..]| number(root(a)))?;
+    total += try_function(&rt, "norm", Norm, |[a, b, ..]| number(norm(vec2(a, b))))?;
+    total += try_function(
+        &rt,
+        "dot",
+        Dot,
+        |[a, b, c, d]| number(dot(vec2(a, b), vec2(c, d))),
+    )?;
+    total += try_function(
+        &rt,
+        "cross",
+        Cross,
+        |[a, b, c, d]| number(cross(vec2(a, b), vec2(c, d))),
+    )?;
+    total += try_function(
+        &rt,
+        "normalise",
+        Normalise,
+        |[a, b, c, ..]| parts(normalise(vec2(a, b), c)),
+    )?;
+    total += try_function(&rt, "sine", Sine, |[a, ..]| number(sine(a)))?;
+    total += try_function(&rt, "cosine", Cosine, |[a, ..]| number(cosine(a)))?;
+    total += try_function(
+        &rt,
+        "arctangent",
+        Arctangent,
+        |[a, ..]| number(arctangent(a)),
+    )?;
+    total += try_function(&rt, "arcsine", Arcsine, |[a, ..]| number(arcsine(a)))?;
+    total += try_function(
+        &rt,
+        "arctangent2",
+        Arctangent2,
+        |[a, b, ..]| number(arctangent2(a, b)),
+    )?;
+    println!(rt; "total: {total}")
 }

@@ -1,14 +1,11 @@
 -- A call from the numbers and flags that a host gives. Definitions only.
-use Rattle.std.specs.Prelude.{ℕ, cond, eqb, Float}
-use Rattle.laws.specs.declared.types.OptionF32.{OptionF32}
-use Rattle.laws.specs.declared.types.OptionF32.TheVariants as number
-use Rattle.laws.specs.declared.types.OptionVec2.{OptionVec2}
-use Rattle.laws.specs.declared.types.OptionVec2.TheVariants as leg
+use Rattle.std.specs.Prelude.{ℕ, cond, eqb, Float, Option, Some, None}
 use Rattle.laws.specs.declared.types.FlightRegime.{FlightRegime}
 use Rattle.laws.specs.declared.types.FlightRegime.TheVariants.{Copter, Plane}
 use Rattle.records.specs.declared.call.Call.{Call}
 use Rattle.records.specs.declared.call.Call.TheVariants.{Prime, Attitude, Rate, Waypoint, AbsoluteAttitude, Land, AbsoluteRate}
-use Rattle.path.specs.declared.model.WaypointCall.{WaypointCall}
+use Rattle.arithmetic.specs.declared.vector.Vec2.{Vec2}
+use Rattle.guidance.specs.declared.plane.WaypointCall.{WaypointCall}
 use Rattle.call_numbers.specs.declared.CallNumbers.{CallNumbers}
 
 -- 0 copter, else plane
@@ -16,11 +13,11 @@ unfoldable pub regime_of : ℕ → FlightRegime
 regime_of n = cond (eqb n 0) Copter Plane
 
 -- a number that is none where its flag is 0
-unfoldable pub option_of : ℕ → Float → OptionF32
-option_of flag x = cond (eqb flag 0) number.None (number.Some x)
+unfoldable pub option_of : ℕ → Float → Option Float
+option_of flag x = cond (eqb flag 0) None (Some x)
 
-unfoldable pub leg_of : ℕ → Float → Float → OptionVec2
-leg_of flag north east = cond (eqb flag 0) leg.None (leg.Some (record { x = north; y = east }))
+unfoldable pub leg_of : ℕ → Float → Float → Option Vec2
+leg_of flag north east = cond (eqb flag 0) None (Some (record { x = north; y = east }))
 
 unfoldable pub waypoint_call : CallNumbers → WaypointCall
 waypoint_call k = record {

@@ -5,15 +5,16 @@ ghost use Rattle.std.specs.Prelude.{◌≡◌};
 ghost use Rattle.call_numbers.specs.Call as spec;
 
 use arithmetic::vector::Vec2;
+use guidance::plane::WaypointCall;
 use laws::types::{
-    AbsoluteAttitudeCommand, AbsoluteRateCommand, AttitudeCommand, FlightRegime, OptionF32,
-    OptionVec2, RateCommand, Vec3, VehicleState, WaypointCommand,
+    AbsoluteAttitudeCommand, AbsoluteRateCommand, AttitudeCommand, FlightRegime, RateCommand, Vec3,
+    VehicleState, WaypointCommand,
 };
-use path::model::WaypointCall;
-use records::call::Call;
+use records::call::{Call, Kind};
 
 // A call as numbers. kind: as in the record; regime: 0 copter, 1 plane; first to fourth: the command numbers in the order
 // `guide_capped` reads them; has_leg, has_airspeed, has_cap: flags, 0 or not 0. What the kind does not use is not read.
+// Numbers and flags, since C has no enum that is safe to read as ours and no Option.
 #[repr(C)]
 #[derive(Clone, Copy)]
 pub struct CallNumbers {
@@ -40,6 +41,7 @@ pub struct CallNumbers {
     pub pitch_cap_rad: f32,
 }
 
+#[tactic(auto, unfolding(crate::specs::Call::regime_of))]
 pub fn regime_of(n: u32) -> FlightRegime
     ensures { result ≡ spec.regime_of n }
 {
@@ -50,137 +52,115 @@ pub fn regime_of(n: u32) -> FlightRegime
     }
 }
 
-pub fn option_of(flag: u32, x: f32) -> OptionF32
+#[tactic(auto, unfolding(crate::specs::Call::option_of))]
+pub fn option_of(flag: u32, x: f32) -> Option<f32>
     ensures { result ≡ spec.option_of flag x }
 {
-    if flag == 0 {
-        OptionF32::None
-    } else {
-        OptionF32::Some(x)
-    }
+    (flag != 0).then_some(x)
 }
 
-fn leg_of(flag: u32, north: f32, east: f32) -> OptionVec2
+#[tactic(auto, unfolding(crate::specs::Call::leg_of))]
+fn leg_of(flag: u32, north: f32, east: f32) -> Option<Vec2>
     ensures { result ≡ spec.leg_of flag north east }
 {
-    if flag == 0 {
-        OptionVec2::None
-    } else {
-        OptionVec2::Some(Vec2 { x: north, y: east })
-    }
+    (flag != 0).then_some(Vec2 { x: north, y: east })
 }
 
 // A waypoint call, whatever the kind says.
+#[tactic(auto, unfolding(crate::specs::Call::waypoint_call))]
 pub fn waypoint_call_of(k: CallNumbers) -> WaypointCall
     ensures { result ≡ spec.waypoint_call k }
 {
-    let regime = regime_of(k.regime);
-    let velocity_mps = leg_of(k.has_leg, k.leg_north_mps, k.leg_east_mps);
-    let airspeed_mps = option_of(k.has_airspeed, k.airspeed_mps);
-    let cap = option_of(k.has_cap, k.pitch_cap_rad);
-    let position_m = k.position_m;
-    let ground_mps = k.velocity_mps;
     WaypointCall {
         dt: k.dt,
-        regime,
+        regime: regime_of(k.regime),
         command: WaypointCommand {
             position_m: Vec2 {
                 x: k.waypoint_north_m,
                 y: k.waypoint_east_m,
             },
-            velocity_mps,
+            velocity_mps: leg_of(k.has_leg, k.leg_north_mps, k.leg_east_mps),
             altitude_m: k.altitude_m,
             cruise_speed_mps: k.cruise_speed_mps,
         },
         state: VehicleState {
-            position_m,
-            velocity_mps: ground_mps,
+            position_m: k.position_m,
+            velocity_mps: k.velocity_mps,
             roll_rad: k.roll_rad,
-            airspeed_mps,
+            airspeed_mps: option_of(k.has_airspeed, k.airspeed_mps),
         },
-        cap,
+        cap: option_of(k.has_cap, k.pitch_cap_rad),
     }
 }
 
+#[tactic(auto, unfolding(crate::specs::Call::waypoint_of))]
 fn waypoint_of(k: CallNumbers) -> Call
     ensures { result ≡ spec.waypoint_of k }
 {
-    let w = waypoint_call_of(k);
-    let regime = w.regime;
-    let command = w.command;
-    let state = w.state;
-    let cap = w.cap;
+    let WaypointCall {
+        dt,
+        regime,
+        command,
+        state,
+        cap,
+    } = waypoint_call_of(k);
     Call::Waypoint {
         regime,
-        dt: w.dt,
+        dt,
         command,
         state,
         cap,
     }
 }
 
-// The call of a kind from 0 to 6.
+// The call of a kind from 0 to 6; a kind that none is counts as the last.
+#[tactic(auto, using(crate::proofs::ByKind::by_kind))]
 pub fn call_of(k: CallNumbers) -> Call
     ensures { result ≡ spec.from_numbers k }
 {
     let regime = regime_of(k.regime);
-    let kind = k.kind;
     let dt = k.dt;
-    let first = k.first;
-    let second = k.second;
-    let third = k.third;
-    let fourth = k.fourth;
-    if kind == 0 {
-        return Call::Prime;
-    }
-    if kind == 1 {
-        return Call::Attitude {
+    match Kind::from_number(k.kind) {
+        Some(Kind::Prime) => Call::Prime,
+        Some(Kind::Attitude) => Call::Attitude {
             regime,
             dt,
             command: AttitudeCommand {
-                throttle: third,
-                roll: first,
-                pitch: second,
+                throttle: k.third,
+                roll: k.first,
+                pitch: k.second,
             },
-        };
-    }
-    if kind == 2 {
-        return Call::Rate {
+        },
+        Some(Kind::Rate) => Call::Rate {
             regime,
             dt,
             command: RateCommand {
-                throttle: fourth,
-                roll_rate: first,
-                pitch_rate: second,
-                yaw_rate: third,
+                throttle: k.fourth,
+                roll_rate: k.first,
+                pitch_rate: k.second,
+                yaw_rate: k.third,
             },
-        };
-    }
-    if kind == 3 {
-        return waypoint_of(k);
-    }
-    if kind == 4 {
-        return Call::AbsoluteAttitude {
+        },
+        Some(Kind::Waypoint) => waypoint_of(k),
+        Some(Kind::AbsoluteAttitude) => Call::AbsoluteAttitude {
             regime,
             dt,
             command: AbsoluteAttitudeCommand {
-                roll_rad: first,
-                pitch_rad: second,
-                thrust: third,
+                roll_rad: k.first,
+                pitch_rad: k.second,
+                thrust: k.third,
             },
-        };
-    }
-    if kind == 5 {
-        return Call::Land { regime, dt };
-    }
-    Call::AbsoluteRate {
-        regime,
-        dt,
-        command: AbsoluteRateCommand {
-            roll_radps: first,
-            pitch_radps: second,
-            yaw_radps: third,
-            thrust: fourth,
+        },
+        Some(Kind::Land) => Call::Land { regime, dt },
+        Some(Kind::AbsoluteRate) | None => Call::AbsoluteRate {
+            regime,
+            dt,
+            command: AbsoluteRateCommand {
+                roll_radps: k.first,
+                pitch_radps: k.second,
+                yaw_radps: k.third,
+                thrust: k.fourth,
+            },
         },
     }
 }

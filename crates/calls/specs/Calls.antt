@@ -1,15 +1,12 @@
 -- A record's call as a call on a guidance, and what carrying it out gives. Definitions only.
+use Rattle.std.specs.Prelude.{Option, None, Some, Float}
 use Rattle.arithmetic.specs.Constants.{n0}
-use Rattle.laws.specs.declared.types.OptionF32.{OptionF32}
-use Rattle.laws.specs.declared.types.OptionF32.TheVariants.{None}
 use Rattle.laws.specs.declared.types.VehicleState.{VehicleState}
 use Rattle.laws.specs.declared.types.ControlInput.TheVariants as Input
 use Rattle.claims.specs.Calls.{Call, guide, prime, Reply, answered, done, Outcome}
 use Rattle.records.specs.declared.call.Call.{Call as Read}
 use Rattle.records.specs.declared.call.Call.TheVariants as read
 use Rattle.calls.specs.declared.GuideCall.{GuideCall}
-use Rattle.calls.specs.declared.Wanted.{Wanted}
-use Rattle.calls.specs.declared.Wanted.TheVariants as wanted
 use Rattle.calls.specs.declared.Reply.{Reply as Given}
 use Rattle.calls.specs.declared.Reply.TheVariants as given
 use Rattle.calls.specs.declared.Performed.{Performed}
@@ -23,7 +20,7 @@ unsensed = record {
   airspeed_mps = None;
 }
 
-abbrev pub no_cap : OptionF32
+abbrev pub no_cap : Option Float
 no_cap = None
 
 -- the call that a record carries
@@ -41,9 +38,9 @@ call_of (read.AbsoluteRate r dt c) = guide dt r (Input.AbsoluteRate c) unsensed 
 abbrev pub guide_of : GuideCall → Call
 guide_of k = guide k.dt k.regime k.input k.state k.cap
 
-abbrev pub as_call : Wanted → Call
-as_call wanted.Prime = prime
-as_call (wanted.Guide k) = guide_of k
+abbrev pub as_call : Option GuideCall → Call
+as_call None = prime
+as_call (Some k) = guide_of k
 
 abbrev pub as_reply : Given → Reply
 as_reply (given.Answered a) = answered a

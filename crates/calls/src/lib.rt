@@ -6,8 +6,9 @@ ghost use Rattle.claims.specs.Calls as spec;
 ghost use Rattle.calls.specs.Calls as is;
 
 use guidance::plane::{Answer, PlaneGuidance};
-use laws::types::{ControlInput, FlightRegime, OptionF32, Vec3, VehicleState};
+use laws::types::{ControlInput, FlightRegime, Vec3, VehicleState};
 use records::call::Call;
+use refusals::Refusal;
 
 // What `guide_capped` takes besides the guidance.
 #[derive(Clone, Copy)]
@@ -16,21 +17,17 @@ pub struct GuideCall {
     pub regime: FlightRegime,
     pub input: ControlInput,
     pub state: VehicleState,
-    pub cap: OptionF32,
+    pub cap: Option<f32>,
 }
 
-#[derive(Clone, Copy)]
-pub enum Wanted {
-    Prime,
-    Guide(GuideCall),
-}
-
+// What a guide call answers, or that the call was a prime: an `Option` would say of a prime that nothing was answered, not what it was.
 #[derive(Clone, Copy)]
 pub enum Reply {
-    Answered(Answer),
+    Answered(Result<Answer, Refusal>),
     Primed,
 }
 
+// The guidance after a call, and what the caller gets.
 #[derive(Clone, Copy)]
 pub struct Performed {
     pub guidance: PlaneGuidance,
@@ -38,10 +35,10 @@ pub struct Performed {
 }
 
 // A command other than a waypoint, which reads neither sensors nor cap.
-fn unsensed(dt: f32, regime: FlightRegime, input: ControlInput) -> Wanted
-    ensures { is.as_call result ≡ spec.guide dt regime input is.unsensed is.no_cap }
+fn unsensed(dt: f32, regime: FlightRegime, input: ControlInput) -> GuideCall
+    ensures { is.guide_of result ≡ spec.guide dt regime input is.unsensed is.no_cap }
 {
-    Wanted::Guide(GuideCall {
+    GuideCall {
         dt,
         regime,
         input,
@@ -57,34 +54,35 @@ fn unsensed(dt: f32, regime: FlightRegime, input: ControlInput) -> Wanted
                 z: 0.0,
             },
             roll_rad: 0.0,
-            airspeed_mps: OptionF32::None,
+            airspeed_mps: None,
         },
-        cap: OptionF32::None,
-    })
+        cap: None,
+    }
 }
 
-fn taken_apart(call: Call) -> Wanted
+// The guide call that a record's call is; a prime is none.
+fn guide_call(call: Call) -> Option<GuideCall>
     ensures { is.as_call result ≡ is.call_of call }
 {
     match call {
-        Call::Prime => Wanted::Prime,
+        Call::Prime => None,
         Call::Attitude {
             regime,
             dt,
             command,
-        } => unsensed(dt, regime, ControlInput::Attitude(command)),
+        } => Some(unsensed(dt, regime, ControlInput::Attitude(command))),
         Call::Rate {
             regime,
             dt,
             command,
-        } => unsensed(dt, regime, ControlInput::Rate(command)),
+        } => Some(unsensed(dt, regime, ControlInput::Rate(command))),
         Call::Waypoint {
             regime,
             dt,
             command,
             state,
             cap,
-        } => Wanted::Guide(GuideCall {
+        } => Some(GuideCall {
             dt,
             regime,
             input: ControlInput::Waypoint(command),
@@ -95,41 +93,36 @@ fn taken_apart(call: Call) -> Wanted
             regime,
             dt,
             command,
-        } => unsensed(dt, regime, ControlInput::AbsoluteAttitude(command)),
-        Call::Land { regime, dt } => unsensed(dt, regime, ControlInput::Land),
+        } => Some(unsensed(dt, regime, ControlInput::AbsoluteAttitude(command))),
+        Call::Land { regime, dt } => Some(unsensed(dt, regime, ControlInput::Land)),
         Call::AbsoluteRate {
             regime,
             dt,
             command,
-        } => unsensed(dt, regime, ControlInput::AbsoluteRate(command)),
+        } => Some(unsensed(dt, regime, ControlInput::AbsoluteRate(command))),
     }
 }
 
+#[tactic(auto, unfolding(claims::specs::Calls::perform))]
 fn guided(g: PlaneGuidance, k: GuideCall) -> Performed
     ensures { is.as_outcome result ≡ spec.perform g (is.guide_of k) }
 {
-    let regime = k.regime;
-    let input = k.input;
-    let state = k.state;
-    let cap = k.cap;
-    let done = g.guide_capped(k.dt, regime, input, state, cap);
-    let guidance = done.guidance;
-    let answer = done.answer;
+    let done = g.guide_capped(k.dt, k.regime, k.input, k.state, k.cap);
     Performed {
-        guidance,
-        reply: Reply::Answered(answer),
+        guidance: done.guidance,
+        reply: Reply::Answered(done.answer),
     }
 }
 
+#[tactic(auto, unfolding(claims::specs::Calls::perform))]
 pub fn perform(g: PlaneGuidance, call: Call) -> Performed
     ensures { is.as_outcome result ≡ spec.perform g (is.call_of call) }
 {
-    let w = taken_apart(call);
-    match w {
-        Wanted::Prime => Performed {
+    match guide_call(call) {
+        None => Performed {
             guidance: g.prime(),
             reply: Reply::Primed,
         },
-        Wanted::Guide(k) => guided(g, k),
+        Some(k) => guided(g, k),
     }
 }

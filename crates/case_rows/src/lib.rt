@@ -1,51 +1,106 @@
-// What the programs over rows of figures share: reading, a row's words and numbers, and how many rows were right. A row that a program reads
-// is its own array, and a function cannot be handed on, so that each program has its own loop over its rows.
+// What the programs over rows of figures share: reading a file's rows, trying each, and how many were right.
 #![tactic(auto)]
 
-ghost use Rattle.std.specs.Prelude.{◌≡◌, ◌<◌, ◌≤◌, length, take, from_bits, to_bits, IfOk};
-ghost use Rattle.std.specs.Float.{binary32};
+ghost use Rattle.std.specs.Prelude.{◌≡◌, ◌+◌, ◌%◌, ◌^◌, ◌<◌, ◌≤◌, ◌↔◌, ◌++◌, length, take, map, slice_range, IfOk, IfNone, IsTrue, Some, codes};
+ghost use Rattle.std.specs.Fmt.{decimal};
+ghost use Rattle.std.specs.Int.{w32, from_le_bytes};
+ghost use Rattle.std.specs.Simd.{first_chunks};
 ghost use Rattle.std.specs.Io.KnownBytes.{Consumes, IsAtEnd};
+ghost use Rattle.fields.specs.Numbers.{floats_of, bits_of};
 
-use std::io;
-use std::io::{Read, Write};
+pub use fields::bytes::{from_bits, to_bits};
+use fields::numbers::{bits_of, floats_of};
+use std::io::Read;
+use std::ops::AddAssign;
+use std::rt::Files;
+use std::{fmt, fs, io};
 
-#[derive(Clone, Copy)]
+// The most rows that are tried of a file: a proved loop has to end.
+pub const MOST_ROWS: u32 = 100_000;
+
+// The most words of a row, and its bytes.
+pub const MOST_WORDS: usize = 64;
+
+const ROOM: usize = MOST_WORDS * 4;
+
+// The words of a row, from the first on; what stands after its last says nothing.
+#[derive(Drop)]
+pub struct Row {
+    pub words: [u32; MOST_WORDS],
+}
+
+impl Row {
+    // N words, from a place on.
+    pub fn words<const N: usize>(&self, from: usize) -> [u32; N]
+        requires { from + N ≤ MOST_WORDS }
+        ensures { result ≡ slice_range self.now.words from (from + N) }
+    {
+        let mut part = [0; N];
+        part.copy_from_slice(&self.words[from..from + N]);
+        part
+    }
+
+    // The numbers whose bits are N words from a place on.
+    pub fn numbers<const N: usize>(&self, from: usize) -> [f32; N]
+        requires { from + N ≤ MOST_WORDS }
+        ensures { result ≡ floats_of (slice_range self.now.words from (from + N)) }
+    {
+        floats_of(self.words(from))
+    }
+
+    // Whether the words from a place on are these numbers' bits.
+    pub fn has<const N: usize>(&self, from: usize, numbers: [f32; N]) -> bool
+        requires { from + N ≤ MOST_WORDS }
+        ensures { IsTrue result ↔ (slice_range self.now.words from (from + N) ≡ bits_of numbers.entry) }
+    {
+        self.words(from) == bits_of(numbers)
+    }
+}
+
+// Four bytes make a word, low byte first.
+impl From<[u8; ROOM]> for Row {
+    ghost use Rattle.case_rows.specs.declared.TheConstants.{MOST_WORDS};
+
+    ghost from_gives = { λ bytes row. row.words ≡ map (from_le_bytes w32) (first_chunks 4 MOST_WORDS bytes) };
+
+    fn from(bytes: [u8; ROOM]) -> Row {
+        let (chunks, _) = bytes.as_chunks::<4>();
+        let mut words = [0; MOST_WORDS];
+        for (i, chunk) in chunks.iter().enumerate() {
+            words[i] = u32::from_le_bytes(*chunk);
+        }
+        Row { words }
+    }
+}
+
+// How many rows there were, and how many of them were right.
+#[derive(Clone, Copy, Default)]
 pub struct Count {
     pub rows: u32,
     pub right: u32,
 }
 
-pub fn number_of(bits: u32) -> f32
-    ensures { result ≡ from_bits binary32 bits }
-{
-    if bits % 0x8000_0000 > 0x7f80_0000 {
-        return 0.0 / 0.0;
+impl AddAssign for Count {
+    ghost add_assign_gives = { λ a b sum. (sum.rows ≡ (a.rows + b.rows) % 2 ^ 32) × (sum.right ≡ (a.right + b.right) % 2 ^ 32) };
+
+    fn add_assign(&mut self, other: Count) {
+        self.rows = self.rows.wrapping_add(other.rows);
+        self.right = self.right.wrapping_add(other.right);
     }
-    f32::from_bits(bits)
 }
 
-// Every NaN is 7fc00000.
-pub fn bits(x: f32) -> u32
-    ensures { result ≡ to_bits binary32 x }
-{
-    if x != x {
-        return 0x7fc0_0000;
+impl fmt::Display for Count {
+    ghost output = { λ count. Some (decimal count.right ++ codes " of " ++ decimal count.rows) };
+
+    fn fmt<W: fmt::Write>(&self, f: &mut fmt::Formatter<W>) -> fmt::Result {
+        let right = self.right;
+        let rows = self.rows;
+        write!(f, "{right} of {rows}")
     }
-    f32::to_bits(x)
-}
-
-fn wide(b: u8) -> u32
-    ensures { result ≤ 255 }
-{
-    b as u32
-}
-
-// Four bytes, low byte first.
-pub fn word_of(a: u8, b: u8, c: u8, d: u8) -> u32 {
-    wide(a) + wide(b) * 0x100 + wide(c) * 0x1_0000 + wide(d) * 0x100_0000
 }
 
 // Reads until the room is full or the file ends, and says how many bytes it put at the room's start.
+// A read may give fewer bytes than there is room for, so that the turns of the loop are not counted.
 pub fn read_full<F: Read>(file: &mut F, room: &mut [u8]) -> io::Result<usize>
     ensures bound { IfOk result (λ n. n ≤ length room.new) }
     ensures bytes { IfOk result (λ n. Consumes (F.remaining file.old) (F.remaining file.new) (take n room.new)) }
@@ -62,15 +117,71 @@ pub fn read_full<F: Read>(file: &mut F, room: &mut [u8]) -> io::Result<usize>
     Ok(done)
 }
 
-pub fn print_count<R: Print>(rt: &R, name: &[u8], count: Count) -> io::Result<()> {
-    let mut out = io::writer(rt);
-    out.write_all(name)?;
-    writeln!(out, ": {} of {}", count.right, count.rows)
+// Reads a row of some words and tries it; None where the file has no more. A row that is cut short is not right.
+fn try_row<F: Read, T: FnMut(&Row) -> bool>(
+    file: &mut F,
+    words: usize,
+    is_right: &mut T,
+) -> io::Result<Option<bool>>
+    requires fits { (0 < words) × (words ≤ MOST_WORDS) }
+    requires callable { T.IsAlwaysCallable is_right.old }
+    ensures still_callable { T.IsAlwaysCallable is_right.new }
+    ensures end { IfOk result (λ right. IfNone right (IsAtEnd (F.remaining file.new))) }
+{
+    let mut room = [0u8; ROOM];
+    let size = words * 4;
+    match read_full(file, &mut room[..size])? {
+        0 => Ok(None),
+        n => Ok(Some(n == size && is_right(&Row::from(room)))),
+    }
 }
 
-pub fn plus(a: Count, b: Count) -> Count {
-    Count {
-        rows: a.rows.wrapping_add(b.rows),
-        right: a.right.wrapping_add(b.right),
+// Tries the rows of a file, at most MOST_ROWS.
+pub fn try_rows<F: Read, T: FnMut(&Row) -> bool>(
+    file: &mut F,
+    words: usize,
+    mut is_right: T,
+) -> io::Result<Count>
+    requires fits { (0 < words) × (words ≤ MOST_WORDS) }
+    requires callable { T.IsAlwaysCallable is_right }
+    ensures right { IfOk result (λ count. count.right ≤ count.rows) }
+    ensures most { IfOk result (λ count. count.rows ≤ MOST_ROWS) }
+    ensures end { IfOk result (λ count. count.rows < MOST_ROWS → IsAtEnd (F.remaining file.new)) }
+{
+    let mut right = 0;
+    for rows in 0..MOST_ROWS {
+        match try_row(file, words, &mut is_right)? {
+            None => return Ok(Count { rows, right }),
+            Some(true) => right += 1,
+            Some(false) => {}
+        }
     }
+    Ok(Count {
+        rows: MOST_ROWS,
+        right,
+    })
+}
+
+// Tries the rows of the file of this name, and prints the count under the name.
+pub fn try_group<R: Files + Print + Eprint, T: FnMut(&Row) -> bool>(
+    rt: &R,
+    name: &str,
+    words: usize,
+    is_right: T,
+) -> io::Result<Count>
+    requires fits { (0 < words) × (words ≤ MOST_WORDS) }
+    requires callable { T.IsAlwaysCallable is_right }
+    ensures right { IfOk result (λ count. count.right ≤ count.rows) }
+    ensures most { IfOk result (λ count. count.rows ≤ MOST_ROWS) }
+{
+    let mut file = match fs::open(rt, name) {
+        Ok(file) => file,
+        Err(e) => {
+            eprintln!(rt; "{name}: {e}")?;
+            return Ok(Count::default());
+        }
+    };
+    let count = try_rows(&mut file, words, is_right)?;
+    println!(rt; "{name}: {count}")?;
+    Ok(count)
 }

@@ -1,5 +1,8 @@
 -- Two guidances that differ in the requested regime alone are answered alike, and stay so; two that differ in the kept configuration
 -- too, up to a taking back. Assumes nothing.
+use Rattle.std.specs.Prelude.{Option, Float}
+use Rattle.refusals.specs.declared.Refusal.{Refusal}
+use Rattle.refusals.specs.declared.Refusal.TheVariants as reason
 use Prim.Native.Nat.{ℕ}
 use mathlib.Core.Path.{◌≡◌, refl, sym, ap, ◌∙◌, subst}
 use mathlib.Core.Bool.{Bool, true, false, cond}
@@ -8,7 +11,6 @@ use lib.Dec.{eqb}
 use lib.Ieee.{Float}
 use Rattle.arithmetic.proofs.Bounds.{never'}
 use Rattle.laws.specs.Config.{validate}
-use Rattle.laws.specs.declared.types.OptionF32.{OptionF32}
 use Rattle.laws.specs.declared.types.WaypointCommand.{WaypointCommand}
 use Rattle.laws.specs.declared.types.ControlInput.{ControlInput}
 use Rattle.laws.specs.declared.types.ControlInput.TheVariants as Input
@@ -19,9 +21,7 @@ use Rattle.guidance.specs.Plane.{
   cleared,
   primed,
   with_config,
-  configured,
   restored,
-  taken_back,
   bad_time_step,
   bad_cap,
   refusal,
@@ -33,11 +33,11 @@ use Rattle.guidance.specs.Plane.{
   obeyed,
   guided,
 }
-use Rattle.claims.specs.Calls.{Call, guide, prime, set_config, take_back, answered, Outcome, answered_by, taken_back_by, perform, replies}
+use Rattle.claims.specs.Calls.{Call, guide, prime, set_config, take_back, answered, Outcome, answered_by, perform, replies}
+use Rattle.claims.proofs.Performed.{set_config_is, taken_to, take_back_is}
 use Rattle.guidance.specs.declared.plane.Former.{Former}
 use Rattle.guidance.specs.declared.plane.PlaneGuidance.{PlaneGuidance}
 use Rattle.guidance.specs.declared.plane.Guided.{Guided}
-use Rattle.guidance.specs.declared.plane.TakenBack.{TakenBack}
 use Rattle.laws.specs.Tecs.{flag}
 use Rattle.claims.specs.Undone.{is_take_back, up_to_take_back}
 
@@ -102,23 +102,23 @@ module _ (n : ℕ) (f : Former) (g : PlaneGuidance) where
   own : Follow g (other n f g) g (other n f g)
   own = record { near = record { config = refl; altitude = refl; tecs = refl }; former = λ e. e }
 
-  refusal_near : (r : ℕ) → FollowGuided g (other n f g) (refusal g r) (refusal (other n f g) r)
-  refusal_near r = record { answer = refl; guidance = own }
+  refusal_near : (why : Refusal) → FollowGuided g (other n f g) (refusal g why) (refusal (other n f g) why)
+  refusal_near why = record { answer = refl; guidance = own }
 
   commanded_near : (regime : FlightRegime) (s : Setpoint) → FollowGuided g (other n f g) (commanded g regime s) (commanded (other n f g) regime s)
   unfolding commanded cleared
   commanded_near regime s = record { answer = refl; guidance = record { near = record { config = refl; altitude = refl; tecs = refl }; former = λ e. e } }
 
-  waypoint_near : (dt : Float) (regime : FlightRegime) (w : WaypointCommand) (s : VehicleState) (cap : OptionF32) →
+  waypoint_near : (dt : Float) (regime : FlightRegime) (w : WaypointCommand) (s : VehicleState) (cap : Option Float) →
       FollowGuided g (other n f g) (waypoint g dt regime w s cap) (waypoint (other n f g) dt regime w s cap)
   unfolding waypoint
   waypoint_near dt regime w s cap =
-      either (bad_cap cap) (refusal_near 3)
+      either (bad_cap cap) (refusal_near reason.PitchCap)
       (either (all_finite (vertical (vertical_law dt w s) g.config g.altitude g.tecs dt w s cap))
       (record { answer = refl; guidance = record { near = record { config = refl; altitude = refl; tecs = refl }; former = λ e. e } })
-      (refusal_near 4))
+      (refusal_near reason.NotFinite))
 
-  obeyed_near : (dt : Float) (regime : FlightRegime) (input : ControlInput) (s : VehicleState) (cap : OptionF32) →
+  obeyed_near : (dt : Float) (regime : FlightRegime) (input : ControlInput) (s : VehicleState) (cap : Option Float) →
       FollowGuided g (other n f g) (obeyed g dt regime input s cap) (obeyed (other n f g) dt regime input s cap)
   unfolding obeyed
   obeyed_near dt regime (Input.Attitude k) s cap = commanded_near regime _
@@ -139,14 +139,16 @@ answered_near p = record { reply = ap answered p.answer; next = p.guidance }
 
 perform_other : (n : ℕ) (f : Former) (g : PlaneGuidance) (k : Call) → is_take_back k ≡ false →
     FollowOutcome g (other n f g) (perform g k) (perform (other n f g) k)
-unfolding perform guided primed cleared configured with_config
+unfolding perform guided primed cleared with_config
 perform_other n f g (guide dt regime input s cap) e =
-    answered_near (either (bad_time_step dt) (refusal_near n f g 2) (obeyed_near n f g dt regime input s cap))
+    answered_near (either (bad_time_step dt) (refusal_near n f g reason.TimeStep) (obeyed_near n f g dt regime input s cap))
 perform_other n f g prime e = record { reply = refl; next = record { near = record { config = refl; altitude = refl; tecs = refl }; former = λ p. p } }
-perform_other n f g (set_config c) e = record {
-  reply = refl;
-  next = either_guidance (eqb (validate c) 0) (record { near = record { config = refl; altitude = refl; tecs = refl }; former = λ p. refl }) (own n f g);
-}
+perform_other n f g (set_config c) e =
+    rw (set_config_is g c, set_config_is (other n f g) c)
+    (record {
+      reply = refl;
+      next = either_guidance (eqb (validate c) 0) (record { near = record { config = refl; altitude = refl; tecs = refl }; former = λ p. refl }) (own n f g);
+    })
 perform_other n f g take_back e = never' e
 
 pub perform_near : (g h : PlaneGuidance) → Near g h → (k : Call) → is_take_back k ≡ false → FollowOutcome g h (perform g k) (perform h k)
@@ -175,16 +177,16 @@ pub record AlikeOutcome (o o' : Outcome) : Type 0 where
   pub reply : o.reply ≡ o'.reply
   pub next : Alike o.next o'.next
 
-either_taken : (b : Bool) {x x' y y' : TakenBack} → AlikeOutcome (taken_back_by x) (taken_back_by x') → AlikeOutcome (taken_back_by y) (taken_back_by y')
-    → AlikeOutcome (taken_back_by (cond b x y)) (taken_back_by (cond b x' y'))
-either_taken true p q = p
-either_taken false p q = q
+either_taken : (b : Bool) {g g' h h' : PlaneGuidance} → Alike g g' → Alike h h' → AlikeOutcome (taken_to g h b) (taken_to g' h' b)
+either_taken true p q = record { reply = refl; next = q }
+either_taken false p q = record { reply = refl; next = p }
 
 taken_alike : (n : ℕ) (g : PlaneGuidance) → AlikeOutcome (perform g take_back) (perform (other n g.former g) take_back)
-unfolding perform taken_back restored
+unfolding restored
 taken_alike n g =
-    either_taken (flag g.former.kept) (record { reply = refl; next = record { config = refl; altitude = refl; tecs = refl; former = refl } })
-    (record { reply = refl; next = record { config = refl; altitude = refl; tecs = refl; former = refl } })
+    rw (take_back_is g, take_back_is (other n g.former g))
+    (either_taken (flag g.former.kept) (record { config = refl; altitude = refl; tecs = refl; former = refl })
+    (record { config = refl; altitude = refl; tecs = refl; former = refl }))
 
 -- a call that is no taking back, of guidances that keep the same
 alike_of : {g h : PlaneGuidance} {o o' : Outcome} → Alike g h → FollowOutcome g h o o' → AlikeOutcome o o'

@@ -1,6 +1,6 @@
 -- Where the capture angle is NaN: only where the distance off the line over the L1 distance is, since the arcsine of every number from
 -- -1 to 1 is a number. Assumes nothing.
-use mathlib.Core.Path.{◌≡◌, refl, sym, ap, ◌∙◌, subst}
+use mathlib.Core.Path.{◌≡◌, refl, sym, subst}
 use mathlib.Core.Bool.{Bool, true, false, cond}
 use Prim.Native.Nat.{ℕ, zero, suc, ◌-◌, ◌*◌}
 use native.Mathlib.Omega.{arith}
@@ -16,12 +16,13 @@ use Rattle.arithmetic.specs.Root.{root_of, nearest_root}
 use Rattle.arithmetic.specs.Trigonometry.{arctangent, arctangent_of_size, arcsine}
 use Rattle.arithmetic.proofs.Bounds.{never, never', nan_is, AtLeastZero, an_inf, plain, minus_zero_lem, at_least, from_0, zero_is}
 use Rattle.arithmetic.proofs.Bounds.{finite_number, right_number, le_of_not_lt, clamped_low, clamped_high}
-use Rattle.arithmetic.proofs.Sums.{cross_of, le_trans, sub_mono, round_neg, round_plain}
+use Rattle.arithmetic.proofs.Sums.{cross_of, le_trans, sub_mono, round_plain}
 use Rattle.arithmetic.proofs.Signs.{size_number, size_unsigned, signed_number}
 use Rattle.arithmetic.proofs.Arctangent.{zero_exponent, arctangent_number}
 use Rattle.arithmetic.proofs.Within.{Within, held, within_finite, mul_within}
 use Rattle.laws.specs.Navigation.{max_capture, capture}
 use Rattle.claims.specs.StraightBack.{NoCapture}
+use Rattle.claims.proofs.Spans.{round_number}
 
 one_is : n1 ≡ fin false 1 (pos 0)
 unfolding of_bits
@@ -30,24 +31,6 @@ one_is = refl
 less_one_is : neg n1 ≡ fin true 1 (pos 0)
 unfolding neg of_bits
 less_one_is = refl
-
--- ---- rounded numbers
-
-at_least_number : {x : Float} → AtLeastZero x → is_nan x ≡ false
-unfolding is_nan
-at_least_number an_inf = refl
-at_least_number (plain m e) = refl
-at_least_number (minus_zero_lem e) = refl
-
-neg_number : {x : Float} → AtLeastZero x → is_nan (neg x) ≡ false
-unfolding is_nan neg
-neg_number an_inf = refl
-neg_number (plain m e) = refl
-neg_number (minus_zero_lem e) = refl
-
-round_number : (s : Bool) (a c : ℕ) → is_nan (round binary32 s a c) ≡ false
-round_number false a c = at_least_number (round_plain binary32 a c)
-round_number true a c = ap is_nan (round_neg binary32 a c) ∙ neg_number (round_plain binary32 a c)
 
 -- ---- from -1 to 1
 

@@ -1,12 +1,14 @@
 -- The bounds of every clamp of a guide call are in order, along every run. Assumes nothing.
-use mathlib.Core.Path.{◌≡◌, refl, sym}
-use mathlib.Core.Bool.{Bool, true, false, cond, not, ◌&&◌}
+use Rattle.std.specs.Prelude.{Option, Float}
+use Rattle.std.proofs.lemmas.Bool.{not-false}
+use mathlib.Core.Path.{◌≡◌, refl}
+use mathlib.Core.Bool.{Bool, true, false, cond, ◌&&◌}
 use mathlib.Core.List.{List}
 use lib.Ieee as Ieee
 use lib.Ieee.{Float, neg, is_nan, le, lt}
 use Rattle.arithmetic.specs.Constants.{◌-ᶠ◌, ◌·ᶠ◌, ◌/ᶠ◌, n0, n1, frac_pi4}
 use Rattle.arithmetic.specs.Order.{greatest, finite}
-use Rattle.arithmetic.proofs.Bounds.{AtLeastZero, between, never, and_left, and_right, left_number, finite_number, greatest_right, zero_between}
+use Rattle.arithmetic.proofs.Bounds.{AtLeastZero, between, and_left, and_right, left_number, finite_number, greatest_right, zero_between}
 use Rattle.arithmetic.proofs.Sums.{sub_mono, neg_finite}
 use Rattle.laws.specs.Config.{validate}
 use Rattle.laws.specs.Math.{limit_or_zero}
@@ -17,7 +19,6 @@ use Rattle.laws.proofs.Validated.{valid_field}
 use Rattle.laws.specs.declared.config.TecsConfig.{TecsConfig}
 use Rattle.laws.specs.declared.config.PlaneGuidanceConfig.{PlaneGuidanceConfig}
 use Rattle.laws.specs.declared.tecs.Inputs.{Inputs}
-use Rattle.laws.specs.declared.types.OptionF32.{OptionF32}
 use Rattle.laws.specs.declared.types.WaypointCommand.{WaypointCommand}
 use Rattle.laws.specs.declared.types.VehicleState.{VehicleState}
 use Rattle.guidance.specs.Plane as Plane
@@ -92,7 +93,7 @@ greatest_finite : (a b : Float) → finite a ≡ true → finite b ≡ true → 
 unfolding greatest
 greatest_finite a b p q = either_finite (is_nan a) _ _ q (either_finite (is_nan b) _ _ p (either_finite (lt b a) _ _ p q))
 
-module _ (c : PlaneGuidanceConfig) (e : validate c ≡ 0) (cap : OptionF32) (q : bad_cap cap ≡ false) where
+module _ (c : PlaneGuidanceConfig) (e : validate c ≡ 0) (cap : Option Float) (q : bad_cap cap ≡ false) where
   v : Valid c
   v = valid c e
 
@@ -183,15 +184,11 @@ module _ (c : PlaneGuidanceConfig) (e : validate c ≡ 0) (cap : OptionF32) (q :
     }
 
 -- ---- a call that numbers 2 and 3 do not refuse
-step_passes : (b : Bool) → not b ≡ false → b ≡ true
-step_passes true p = refl
-step_passes false p = never (sym p)
-
-waypoint_bounds : (c : PlaneGuidanceConfig) → validate c ≡ 0 → (dt : Float) (w : WaypointCommand) (s : VehicleState) (cap : OptionF32) →
+waypoint_bounds : (c : PlaneGuidanceConfig) → validate c ≡ 0 → (dt : Float) (w : WaypointCommand) (s : VehicleState) (cap : Option Float) →
     bad_time_step dt ≡ false → bad_cap cap ≡ false → WaypointBounds c dt w s cap
 unfolding Plane.inputs
 waypoint_bounds c e dt w s cap p q = record {
-  energy = λ a. energy_bounds c e cap q (Plane.inputs dt w s) (positive_field dt (step_passes (lt n0 dt && finite dt) p)) a;
+  energy = λ a. energy_bounds c e cap q (Plane.inputs dt w s) (positive_field dt (not-false (lt n0 dt && finite dt) p)) a;
   fallback = fallback_bounds c e cap q;
 }
 

@@ -1,4 +1,5 @@
 -- Why K12 is stated as it is: for each nearby statement a list of calls on which it fails, by computation. Assumes nothing.
+use Rattle.std.specs.Prelude.{Some}
 use mathlib.Core.Path.{◌≡◌, refl}
 use mathlib.Core.Bool.{Bool, true, false, not, ◌&&◌, ◌||◌}
 use mathlib.Core.List.{List, [], ◌∷◌}
@@ -38,7 +39,6 @@ use Rattle.laws.specs.Tecs.{
   energy_step,
 }
 use Rattle.laws.specs.declared.config.PlaneGuidanceConfig.{PlaneGuidanceConfig}
-use Rattle.laws.specs.declared.types.OptionF32.TheVariants.{Some}
 use Rattle.guidance.specs.Plane as Plane
 use Rattle.guidance.specs.Plane.{fresh}
 use Rattle.claims.specs.Calls.{Call, set_config, perform, holds, after, starts_fresh}

@@ -1,4 +1,5 @@
 -- Demand 3's proof, and what crates above cite of it.
+pub mod Performed
 pub mod Alike
 pub mod Strike
 pub mod Limited

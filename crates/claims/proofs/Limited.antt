@@ -1,5 +1,10 @@
 -- Demand 3: every accepted waypoint call obeys its limits, with the configuration in force and underspeed worked out from the
 -- calls. Assumes nothing.
+use Rattle.std.specs.Prelude.{Option, Some, None, Err, Float}
+use Rattle.std.proofs.lemmas.Bool.{cond_both}
+use Rattle.refusals.specs.Numbers.{number}
+use Rattle.refusals.specs.declared.Refusal.{Refusal}
+use Rattle.refusals.specs.declared.Refusal.TheVariants as reason
 use Prim.Native.Nat.{ℕ}
 use mathlib.Core.Path.{◌≡◌, refl, sym, ap, ◌∙◌, subst}
 use mathlib.Core.Bool.{Bool, true, false, cond, not, ◌&&◌}
@@ -44,22 +49,19 @@ use Rattle.laws.specs.declared.navigation.PiResult.{PiResult}
 use Rattle.laws.specs.declared.tecs.Limits.{Limits}
 use Rattle.laws.specs.declared.tecs.Energies.{Energies}
 use Rattle.laws.specs.declared.tecs.ThrustResult.{ThrustResult}
-use Rattle.laws.specs.declared.types.OptionF32.{OptionF32}
-use Rattle.laws.specs.declared.types.OptionF32.TheVariants.{None, Some}
 use Rattle.laws.specs.declared.types.WaypointCommand.{WaypointCommand}
 use Rattle.laws.specs.declared.types.ControlInput.{ControlInput}
 use Rattle.laws.specs.declared.types.ControlInput.TheVariants as Input
 use Rattle.laws.specs.declared.types.FlightRegime.{FlightRegime}
 use Rattle.laws.specs.declared.types.VehicleState.{VehicleState}
-use Rattle.guidance.specs.Plane.{no_former, or_zero, capped, top_thrust, limits_of, inputs, roll_of, height_error, fallback, vertical, vertical_law, steered, finite_state, all_finite, fresh, cleared, primed, with_config, configured, restored, taken_back, bad_time_step, bad_cap, refusal, flown, commanded, waypoint, obeyed, guided}
+use Rattle.guidance.specs.Plane.{no_former, or_zero, capped, top_thrust, limits_of, inputs, roll_of, height_error, fallback, vertical, vertical_law, steered, finite_state, all_finite, fresh, cleared, primed, with_config, restored, bad_time_step, bad_cap, refusal, flown, commanded, waypoint, obeyed, guided}
 use Rattle.claims.specs.Calls.{Call, guide, prime, set_config, take_back, Reply, answered, perform, refused, replies}
+use Rattle.claims.proofs.Performed.{set_config_is, taken_to, take_back_is}
 use Rattle.claims.specs.Limits.{InForce, at_start, underspeed_at, underspeed_by, in_force_after, Between, EnergyLimits, HoldLimits, Corrected, FallbackPitch, FallbackLimits, VerticalLimits, Obeys, AllObey}
 use Rattle.guidance.specs.declared.plane.PlaneGuidance.{PlaneGuidance}
 use Rattle.guidance.specs.declared.plane.VerticalLaw.{VerticalLaw}
 use Rattle.guidance.specs.declared.plane.VerticalLaw.TheVariants.{Energy, Hold, Fallback}
-use Rattle.guidance.specs.declared.plane.Answer.TheVariants.{Refused}
 use Rattle.guidance.specs.declared.plane.Guided.{Guided}
-use Rattle.guidance.specs.declared.plane.TakenBack.{TakenBack}
 use Rattle.guidance.specs.declared.plane.Vertical.{Vertical}
 
 -- ---- what a valid configuration has
@@ -116,11 +118,11 @@ unfolding roll_of
 roll_within c w s v = symmetric _ c.max_bank_rad v.bank (bank_number _)
 
 -- ---- pitch and thrust
-cap_zero : (limit : Float) (cap : OptionF32) → le n0 limit ≡ true → bad_cap cap ≡ false → le n0 (capped limit cap) ≡ true
+cap_zero : (limit : Float) (cap : Option Float) → le n0 limit ≡ true → bad_cap cap ≡ false → le n0 (capped limit cap) ≡ true
 cap_zero limit None p q = p
 cap_zero limit (Some n) p q = least_zero limit n p q
 
-pub cap_finite : (limit : Float) (cap : OptionF32) → finite limit ≡ true → bad_cap cap ≡ false → finite (capped limit cap) ≡ true
+pub cap_finite : (limit : Float) (cap : Option Float) → finite limit ≡ true → bad_cap cap ≡ false → finite (capped limit cap) ≡ true
 cap_finite limit None p q = p
 cap_finite limit (Some n) p q = least_finite limit n p q
 
@@ -132,7 +134,7 @@ unfolding top_thrust
 thrust_span c v = greatest_right c.max_thrust c.min_thrust v.least_thrust
 
 -- -down is at most up
-pub pitch_span : (c : PlaneGuidanceConfig) (cap : OptionF32) → Valid c → bad_cap cap ≡ false →
+pub pitch_span : (c : PlaneGuidanceConfig) (cap : Option Float) → Valid c → bad_cap cap ≡ false →
     le (neg (capped c.max_pitch_down_rad cap)) (capped c.max_pitch_up_rad cap) ≡ true
 pitch_span c cap v q = zero_between _ _ (cap_zero c.max_pitch_down_rad cap v.pitch_down q) (cap_zero c.max_pitch_up_rad cap v.pitch_up q)
 
@@ -176,7 +178,7 @@ flag_updated was t airspeed = flag_cond (lt airspeed (t.underspeed_share ·ᶠ t
 abbrev pub in_force_of : PlaneGuidance → InForce
 in_force_of g = record { config = g.config; former = g.former; underspeed = flag g.tecs.underspeed }
 
-module _ (g : PlaneGuidance) (dt : Float) (w : WaypointCommand) (s : VehicleState) (cap : OptionF32) (v : Valid g.config) (q : bad_cap cap ≡ false) where
+module _ (g : PlaneGuidance) (dt : Float) (w : WaypointCommand) (s : VehicleState) (cap : Option Float) (v : Valid g.config) (q : bad_cap cap ≡ false) where
   abbrev result : VerticalLaw → Vertical
   result l = vertical l g.config g.altitude g.tecs dt w s cap
 
@@ -286,13 +288,8 @@ pub record Stands (g : PlaneGuidance) (k : Call) (reply : Reply) (next : PlaneGu
 record StandsBy (g : PlaneGuidance) (k : Call) (o : Guided) : Type 0 where
   is : Stands g k (answered o.answer) o.guidance
 
-module _ (g : PlaneGuidance) (dt : Float) (regime : FlightRegime) (s : VehicleState) (cap : OptionF32) where
-  either : (k : ControlInput) (b : Bool) {x y : Guided} → (b ≡ true → StandsBy g (guide dt regime k s cap) x) →
-      (b ≡ false → StandsBy g (guide dt regime k s cap) y) → StandsBy g (guide dt regime k s cap) (cond b x y)
-  either k true p q = p refl
-  either k false p q = q refl
-
-  obeys_refused : (i : InForce) (k : ControlInput) (n : ℕ) → not (eqb n 0) ≡ true → Obeys i (guide dt regime k s cap) (answered (Refused n))
+module _ (g : PlaneGuidance) (dt : Float) (regime : FlightRegime) (s : VehicleState) (cap : Option Float) where
+  obeys_refused : (i : InForce) (k : ControlInput) (why : Refusal) → not (eqb (number why) 0) ≡ true → Obeys i (guide dt regime k s cap) (answered (Err why))
   obeys_refused i (Input.Attitude k) n e = tt
   obeys_refused i (Input.Rate k) n e = tt
   obeys_refused i (Input.Waypoint w) n e = e
@@ -300,10 +297,10 @@ module _ (g : PlaneGuidance) (dt : Float) (regime : FlightRegime) (s : VehicleSt
   obeys_refused i Input.Land n e = tt
   obeys_refused i (Input.AbsoluteRate k) n e = tt
 
-  stands_refusal : (k : ControlInput) (n : ℕ) → not (eqb n 0) ≡ true → StandsBy g (guide dt regime k s cap) (refusal g n)
-  stands_refusal k n e = record {
+  stands_refusal : (k : ControlInput) (why : Refusal) → not (eqb (number why) 0) ≡ true → StandsBy g (guide dt regime k s cap) (refusal g why)
+  stands_refusal k why e = record {
     is = record {
-      obeys = obeys_refused _ k n e;
+      obeys = obeys_refused _ k why e;
       agrees = ap (in_force_after (in_force_of g) (guide dt regime k s cap)) (sym e);
     };
   }
@@ -329,9 +326,10 @@ module _ (g : PlaneGuidance) (dt : Float) (regime : FlightRegime) (s : VehicleSt
   stands_waypoint : Valid g.config → (w : WaypointCommand) → StandsBy g (guide dt regime (Input.Waypoint w) s cap) (waypoint g dt regime w s cap)
   unfolding waypoint
   stands_waypoint v w =
-      either (Input.Waypoint w) (bad_cap cap) (λ e. stands_refusal (Input.Waypoint w) 3 refl)
-      (λ q. either (Input.Waypoint w) (all_finite (vertical (vertical_law dt w s) g.config g.altitude g.tecs dt w s cap))
-      (stands_flown v w q) (λ e. stands_refusal (Input.Waypoint w) 4 refl))
+      let P = StandsBy g (guide dt regime (Input.Waypoint w) s cap) in
+      cond_both (bad_cap cap) _ _ P (λ e. stands_refusal (Input.Waypoint w) reason.PitchCap refl)
+      (λ q. cond_both (all_finite (vertical (vertical_law dt w s) g.config g.altitude g.tecs dt w s cap)) _ _ P
+      (stands_flown v w q) (λ e. stands_refusal (Input.Waypoint w) reason.NotFinite refl))
 
   stands_obeyed : Valid g.config → (input : ControlInput) → StandsBy g (guide dt regime input s cap) (obeyed g dt regime input s cap)
   unfolding obeyed commanded cleared reset
@@ -349,21 +347,18 @@ agrees_configured g h c e true = e
 agrees_configured g h c e false = refl
 
 -- a taking back, by whether a configuration is kept
-abbrev taken_if : Bool → PlaneGuidance → PlaneGuidance → TakenBack
-taken_if b h g = cond b (record { refusal = 0; guidance = h }) (record { refusal = 14; guidance = g })
-
 agrees_taken : (g h : PlaneGuidance) → in_force_of h ≡ in_force_after (in_force_of g) take_back false → (b : Bool) →
-    in_force_of (taken_if b h g).guidance ≡ in_force_after (in_force_of g) take_back (not (eqb (taken_if b h g).refusal 0))
+    in_force_of (taken_to g h b).next ≡ in_force_after (in_force_of g) take_back (refused (taken_to g h b).reply)
 agrees_taken g h e true = e
 agrees_taken g h e false = refl
 
 pub stands : (g : PlaneGuidance) → Valid g.config → (k : Call) → Stands g k (perform g k).reply (perform g k).next
-unfolding perform guided primed cleared reset configured with_config taken_back restored
+unfolding perform guided primed cleared reset with_config restored
 stands g v (guide dt regime input s cap) =
-    (either g dt regime s cap input (bad_time_step dt) (λ e. stands_refusal g dt regime s cap input 2 refl) (λ e. stands_obeyed g dt regime s cap v input)).is
+    (cond_both (bad_time_step dt) _ _ (StandsBy g (guide dt regime input s cap)) (λ e. stands_refusal g dt regime s cap input reason.TimeStep refl) (λ e. stands_obeyed g dt regime s cap v input)).is
 stands g v prime = record { obeys = tt; agrees = refl }
-stands g v (set_config c) = record { obeys = tt; agrees = agrees_configured g _ c refl (eqb (validate c) 0) }
-stands g v take_back = record { obeys = tt; agrees = agrees_taken g (restored g) refl (flag g.former.kept) }
+stands g v (set_config c) = rw (set_config_is g c) (record { obeys = tt; agrees = agrees_configured g _ c refl (eqb (validate c) 0) })
+stands g v take_back = rw (take_back_is g) (record { obeys = tt; agrees = agrees_taken g (restored g) refl (flag g.former.kept) })
 
 -- ---- the configuration in force and the kept one stay valid
 pub record BothValid (config former : PlaneGuidanceConfig) : Type 0 where
@@ -380,21 +375,21 @@ fresh_valid c e = record { in_force_lem = e; kept = default_valid }
 
 in_force_valid : (g : PlaneGuidance) → BothValid g.config g.former.config → (k : Call) →
     let i = in_force_after (in_force_of g) k (refused (perform g k).reply) in BothValid i.config i.former.config
-unfolding perform configured taken_back no_former
+unfolding perform no_former
 in_force_valid g e (guide dt regime input s cap) = pick (refused (answered (guided g dt regime input s cap).answer))
   where
     pick : (b : Bool) → let i = in_force_after (in_force_of g) (guide dt regime input s cap) b in BothValid i.config i.former.config
     pick true = e
     pick false = e
 in_force_valid g e prime = e
-in_force_valid g e (set_config c) = pick (eqb (validate c) 0) refl
+in_force_valid g e (set_config c) = rw (set_config_is g c) (pick (eqb (validate c) 0) refl)
   where
     pick : (b : Bool) → eqb (validate c) 0 ≡ b → let i = in_force_after (in_force_of g) (set_config c) (not b) in BothValid i.config i.former.config
     pick true h = record { in_force_lem = eqb-true (validate c) 0 h; kept = e.in_force_lem }
     pick false h = e
-in_force_valid g e take_back = pick (flag g.former.kept)
+in_force_valid g e take_back = rw (take_back_is g) (pick (flag g.former.kept))
   where
-    pick : (b : Bool) → let i = in_force_after (in_force_of g) take_back (not (eqb (taken_if b (restored g) g).refusal 0)) in
+    pick : (b : Bool) → let i = in_force_after (in_force_of g) take_back (refused (taken_to g (restored g) b).reply) in
         BothValid i.config i.former.config
     pick true = record { in_force_lem = e.kept; kept = default_valid }
     pick false = e

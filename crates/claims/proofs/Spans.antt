@@ -250,7 +250,7 @@ signed_number : (s : Bool) (x : Float) → Signed s x → is_nan x ≡ false
 signed_number false x p = least_number p
 signed_number true x p = sym (neg_nan x) ∙ least_number p
 
-round_number : (s : Bool) (n c : ℕ) → is_nan (round binary32 s n c) ≡ false
+pub round_number : (s : Bool) (n c : ℕ) → is_nan (round binary32 s n c) ≡ false
 round_number s n c = signed_number s _ (round_signed s n c)
 
 either_number : (b : Bool) (x y : Float) → is_nan x ≡ false → is_nan y ≡ false → is_nan (cond b x y) ≡ false

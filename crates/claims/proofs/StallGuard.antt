@@ -1,4 +1,5 @@
 -- The stall guard's report after every list of calls, and full thrust while it stands. Assumes nothing.
+use Rattle.std.specs.Prelude.{Option, Ok, Float}
 use mathlib.Core.Path.{◌≡◌, refl, sym, ap, ◌∙◌, subst}
 use mathlib.Core.Bool.{Bool, true, false, cond, not, ◌||◌}
 use mathlib.Core.List.{List, [], ◌∷◌}
@@ -9,7 +10,6 @@ use Rattle.laws.specs.Config.{validate}
 use Rattle.laws.specs.Types.{valid_airspeed}
 use Rattle.laws.specs.Tecs.{reset}
 use Rattle.laws.specs.declared.config.PlaneGuidanceConfig.{PlaneGuidanceConfig}
-use Rattle.laws.specs.declared.types.OptionF32.{OptionF32}
 use Rattle.laws.specs.declared.types.ControlInput.TheVariants as Input
 use Rattle.laws.specs.declared.types.WaypointCommand.{WaypointCommand}
 use Rattle.laws.specs.declared.types.FlightRegime.{FlightRegime}
@@ -55,7 +55,7 @@ module _ (i : InForce) (ms : List Made) (is : guard_stands ms ≡ i.underspeed) 
   abbrev Says : Call → Bool → Type 0
   Says k r = guard_stands (now k c r ∷ ms) ≡ (in_force_after i k r).underspeed
 
-  waypoint_says : (dt : Float) (regime : FlightRegime) (w : WaypointCommand) (s : VehicleState) (cap : OptionF32) (law : VerticalLaw) →
+  waypoint_says : (dt : Float) (regime : FlightRegime) (w : WaypointCommand) (s : VehicleState) (cap : Option Float) (law : VerticalLaw) →
       vertical_law dt w s ≡ law → Says (guide dt regime (Input.Waypoint w) s cap) false
   unfolding underspeed_at
   waypoint_says dt regime w s cap Energy e =
@@ -93,23 +93,23 @@ told g e ms is (k ∷ ks) =
 -- ---- full thrust
 
 -- an energy step's limits, from those of its answer
-full : (i : InForce) (law : VerticalLaw) (w : WaypointCommand) (s : VehicleState) (cap : OptionF32) (pitch thrust : Float) → is_energy law ≡ true →
+full : (i : InForce) (law : VerticalLaw) (w : WaypointCommand) (s : VehicleState) (cap : Option Float) (pitch thrust : Float) → is_energy law ≡ true →
     VerticalLimits law i w s cap pitch thrust → i.underspeed ≡ true → Ieee.eq thrust (top_thrust i.config) ≡ true
 full i Energy w s cap pitch thrust e l u = l.thrust_top u
 full i Hold w s cap pitch thrust e l u = never e
 full i Fallback w s cap pitch thrust e l u = never e
 
 full_thrust : (g : PlaneGuidance) → validate g.config ≡ 0 →
-    (dt : Float) (regime : FlightRegime) (w : WaypointCommand) (s : VehicleState) (cap : OptionF32) →
+    (dt : Float) (regime : FlightRegime) (w : WaypointCommand) (s : VehicleState) (cap : Option Float) →
     let k = guide dt regime (Input.Waypoint w) s cap in
-    steps k ≡ true → (a : WaypointAnswer) (roll pitch thrust : Float) → (perform g k).reply ≡ answered (Waypoint a) →
+    steps k ≡ true → (a : WaypointAnswer) (roll pitch thrust : Float) → (perform g k).reply ≡ answered (Ok (Waypoint a)) →
     a.setpoint ≡ Set.Plane roll pitch thrust →
     stall_guard (perform g k).next ≡ true → Ieee.eq thrust (top_thrust g.config) ≡ true
 full_thrust g e dt regime w s cap q a roll pitch thrust r p u =
     let k = guide dt regime (Input.Waypoint w) s cap in
     let t = stands g (valid g.config e) k in
     let j = in_force_after (in_force_of g) k (refused (perform g k).reply) in
-    let l : Obeys j k (answered (Waypoint a)) = subst (Obeys j k) r t.obeys in
+    let l : Obeys j k (answered (Ok (Waypoint a))) = subst (Obeys j k) r t.obeys in
     let m : SetpointLimits j dt w s cap a.laws (Set.Plane roll pitch thrust) = subst (SetpointLimits j dt w s cap a.laws) p l in
     let same : j.config ≡ g.config = config_stays (refused (perform g k).reply) in
     subst (λ (c : PlaneGuidanceConfig). Ieee.eq thrust (top_thrust c) ≡ true) same

@@ -1,5 +1,7 @@
 -- Document 02, K5: at a tie straight back the angle steered and the roll are to the right. Assumes nothing.
-use Prim.Native.Nat.{ℕ}
+use Rattle.refusals.specs.declared.Refusal.{Refusal}
+use Rattle.refusals.specs.declared.Refusal.TheVariants as reason
+use Rattle.std.specs.Prelude.{Option, Float}
 use mathlib.Core.Path.{◌≡◌, refl, sym, subst}
 use mathlib.Core.Bool.{Bool, true, false, cond, not, ◌&&◌, ◌||◌}
 use lib.Dec.{T}
@@ -18,7 +20,6 @@ use Rattle.laws.proofs.Validated.{valid_field}
 use Rattle.laws.proofs.Bank.{bank_sign, bank_from_0, clamped_from_0, clamped_sign}
 use Rattle.laws.proofs.StraightBack as Laws
 use Rattle.laws.proofs.StraightBack.{leg_right, leg_from_0, tangent_right}
-use Rattle.laws.specs.declared.types.OptionF32.{OptionF32}
 use Rattle.laws.specs.declared.types.ControlInput.TheVariants as Input
 use Rattle.laws.specs.declared.types.WaypointCommand.{WaypointCommand}
 use Rattle.laws.specs.declared.types.FlightRegime.{FlightRegime}
@@ -89,16 +90,16 @@ either : (none b : Bool) {x y : Guided} → RightBy none x → RightBy none y �
 either none true p q = p
 either none false p q = q
 
-refused : (none : Bool) (g : PlaneGuidance) (n : ℕ) → RightBy none (refusal g n)
-refused none g n = record { is = tt }
+refused : (none : Bool) (g : PlaneGuidance) (why : Refusal) → RightBy none (refusal g why)
+refused none g why = record { is = tt }
 
-answered : (g : PlaneGuidance) (dt : Float) (regime : FlightRegime) (w : WaypointCommand) (s : VehicleState) (cap : OptionF32) (none : Bool) →
+answered : (g : PlaneGuidance) (dt : Float) (regime : FlightRegime) (w : WaypointCommand) (s : VehicleState) (cap : Option Float) (none : Bool) →
     TurnsRight (roll_of g.config w s) none → RightBy none (guided g dt regime (Input.Waypoint w) s cap)
 unfolding guided obeyed waypoint
 answered g dt regime w s cap none t =
-    either none (bad_time_step dt) (refused none g 2)
-    (either none (bad_cap cap) (refused none g 3)
-    (either none (all_finite (vertical (vertical_law dt w s) g.config g.altitude g.tecs dt w s cap)) (record { is = t }) (refused none g 4)))
+    either none (bad_time_step dt) (refused none g reason.TimeStep)
+    (either none (bad_cap cap) (refused none g reason.PitchCap)
+    (either none (all_finite (vertical (vertical_law dt w s) g.config g.altitude g.tecs dt w s cap)) (record { is = t }) (refused none g reason.NotFinite)))
 
 rolls : (c : PlaneGuidanceConfig) (w : WaypointCommand) (s : VehicleState) (none : Bool) → TurnsRight (roll_of c w s) none → RollsRight c w s none
 rolls c w s none t = record {

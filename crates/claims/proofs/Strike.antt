@@ -1,5 +1,9 @@
 -- Demand 3: struck calls and fresh starts. Assumes nothing.
-use Prim.Native.Nat.{ℕ}
+use Rattle.std.specs.Prelude.{Option, Float}
+use Rattle.std.proofs.lemmas.Bool.{not-true}
+use Rattle.refusals.specs.Numbers.{number}
+use Rattle.refusals.specs.declared.Refusal.{Refusal}
+use Rattle.refusals.specs.declared.Refusal.TheVariants as reason
 use mathlib.Core.Path.{◌≡◌, refl, sym, ap, ◌∙◌, subst}
 use mathlib.Core.Bool.{Bool, true, false, cond, not, ◌&&◌, ◌||◌}
 use mathlib.Core.List.{List, [], ◌∷◌}
@@ -9,7 +13,6 @@ use Rattle.arithmetic.proofs.Bounds.{never, never', and_left, and_right}
 use Rattle.laws.specs.Config.{validate}
 use Rattle.laws.specs.Tecs.{flag, hold}
 use Rattle.laws.specs.declared.config.PlaneGuidanceConfig.{PlaneGuidanceConfig}
-use Rattle.laws.specs.declared.types.OptionF32.{OptionF32}
 use Rattle.laws.specs.declared.types.WaypointCommand.{WaypointCommand}
 use Rattle.laws.specs.declared.types.ControlInput.{ControlInput}
 use Rattle.laws.specs.declared.types.ControlInput.TheVariants as Input
@@ -23,9 +26,7 @@ use Rattle.guidance.specs.Plane.{
   cleared,
   primed,
   with_config,
-  configured,
   restored,
-  taken_back,
   bad_time_step,
   bad_cap,
   refusal,
@@ -40,12 +41,12 @@ use Rattle.guidance.specs.Plane.{
   guided,
 }
 use Rattle.claims.specs.Calls.{Call, guide, prime, set_config, take_back, Reply, answered, perform, refused, replies, refusals, law_is, is_hold, is_fallback, holds, fell_back, struck, strikes, unmarked, starts_fresh, settings_of, fresh_with}
+use Rattle.claims.proofs.Performed.{set_config_is, taken_to, take_back_is}
 use Rattle.guidance.specs.declared.plane.PlaneGuidance.{PlaneGuidance}
 use Rattle.guidance.specs.declared.plane.VerticalLaw.{VerticalLaw}
 use Rattle.guidance.specs.declared.plane.VerticalLaw.TheVariants.{Energy, Hold, Fallback}
 use Rattle.guidance.specs.declared.plane.Steered.{Steered}
 use Rattle.guidance.specs.declared.plane.Guided.{Guided}
-use Rattle.guidance.specs.declared.plane.TakenBack.{TakenBack}
 use Rattle.claims.proofs.Alike.{Alike, alike_refl, alike_sym, alike_trans, perform_alike, replies_alike}
 
 -- ---- what one call leaves behind, by whether it was refused
@@ -77,10 +78,10 @@ unchanged_by g k = record {
   started = λ e. never e;
 }
 
-left_refusal : (g : PlaneGuidance) (k : Call) (n : ℕ) → not (eqb n 0) ≡ true → LeftBy g k (refusal g n)
-left_refusal g k n e = record { is = subst (Left g k g) (sym e) (unchanged_by g k) }
+left_refusal : (g : PlaneGuidance) (k : Call) (why : Refusal) → not (eqb (number why) 0) ≡ true → LeftBy g k (refusal g why)
+left_refusal g k why e = record { is = subst (Left g k g) (sym e) (unchanged_by g k) }
 
-module _ (g : PlaneGuidance) (dt : Float) (regime : FlightRegime) (s : VehicleState) (cap : OptionF32) where
+module _ (g : PlaneGuidance) (dt : Float) (regime : FlightRegime) (s : VehicleState) (cap : Option Float) where
   -- a command other than a waypoint
   left_commanded : (k : ControlInput) → is_waypoint k ≡ false → law_is is_hold dt k s ≡ false → (t : Setpoint) →
       LeftBy g (guide dt regime k s cap) (commanded g regime t)
@@ -107,7 +108,7 @@ module _ (g : PlaneGuidance) (dt : Float) (regime : FlightRegime) (s : VehicleSt
           started = λ e. never e;
         };
       })
-      (left_refusal g _ 4 refl)
+      (left_refusal g _ reason.NotFinite refl)
   left_settled w lateral law Hold is =
       either (all_finite (vertical Hold g.config g.altitude g.tecs dt w s cap))
       (record {
@@ -118,7 +119,7 @@ module _ (g : PlaneGuidance) (dt : Float) (regime : FlightRegime) (s : VehicleSt
           started = λ e. never e;
         };
       })
-      (left_refusal g _ 4 refl)
+      (left_refusal g _ reason.NotFinite refl)
   left_settled w lateral law Fallback is =
       either (all_finite (vertical Fallback g.config g.altitude g.tecs dt w s cap))
       (record {
@@ -129,12 +130,12 @@ module _ (g : PlaneGuidance) (dt : Float) (regime : FlightRegime) (s : VehicleSt
           started = λ e. never e;
         };
       })
-      (left_refusal g _ 4 refl)
+      (left_refusal g _ reason.NotFinite refl)
 
   left_waypoint : (w : WaypointCommand) → LeftBy g (guide dt regime (Input.Waypoint w) s cap) (waypoint g dt regime w s cap)
   unfolding waypoint
   left_waypoint w =
-      either (bad_cap cap) (left_refusal g _ 3 refl)
+      either (bad_cap cap) (left_refusal g _ reason.PitchCap refl)
       (left_settled w (steered g.config w s) (vertical_law dt w s) (vertical_law dt w s) refl)
 
   left_obeyed : (input : ControlInput) → LeftBy g (guide dt regime input s cap) (obeyed g dt regime input s cap)
@@ -159,8 +160,8 @@ left_configured g c h a false = unchanged_by g (set_config c)
 
 -- a taking back, by whether one is kept
 left_taken : (g : PlaneGuidance) (h : PlaneGuidance) → g.altitude ≡ h.altitude → (kept : Bool) →
-    let o : TakenBack = cond kept (record { refusal = 0; guidance = h }) (record { refusal = 14; guidance = g }) in
-    Left g take_back o.guidance (not (eqb o.refusal 0))
+    let o = taken_to g h kept in
+    Left g take_back o.next (refused o.reply)
 left_taken g h a true = record {
   unchanged = λ e. never e;
   held = λ e l i. never l;
@@ -170,16 +171,16 @@ left_taken g h a true = record {
 left_taken g h a false = unchanged_by g take_back
 
 left : (g : PlaneGuidance) (k : Call) → Left g k (perform g k).next (refused (perform g k).reply)
-unfolding perform guided primed cleared configured with_config taken_back restored fresh
-left g (guide dt regime input s cap) = (either (bad_time_step dt) (left_refusal g _ 2 refl) (left_obeyed g dt regime s cap input)).is
+unfolding perform guided primed cleared with_config restored fresh
+left g (guide dt regime input s cap) = (either (bad_time_step dt) (left_refusal g _ reason.TimeStep refl) (left_obeyed g dt regime s cap input)).is
 left g prime = record {
   unchanged = λ e. never e;
   held = λ e l i. never l;
   idle = λ before inv e. refl;
   started = λ e. record { config = refl; altitude = refl; tecs = refl; former = refl };
 }
-left g (set_config c) = left_configured g c _ refl (eqb (validate c) 0)
-left g take_back = left_taken g (restored g) refl (flag g.former.kept)
+left g (set_config c) = rw (set_config_is g c) (left_configured g c _ refl (eqb (validate c) 0))
+left g take_back = rw (take_back_is g) (left_taken g (restored g) refl (flag g.former.kept))
 
 -- ---- struck calls
 
@@ -187,17 +188,13 @@ or_cases : (a b : Bool) → a || b ≡ true → {A : Type 0} → (a ≡ true →
 or_cases true b e f h = f refl
 or_cases false b e f h = h refl e
 
-un_not : (b : Bool) → not b ≡ true → b ≡ false
-un_not true e = never e
-un_not false e = refl
-
 -- a struck call changes nothing but the requested regime
 struck_alike : (g : PlaneGuidance) (before : Bool) → (before ≡ false → Idle g) → (k : Call) →
     struck before k (refused (perform g k).reply) ≡ true → Alike g (perform g k).next
 struck_alike g before inv k e =
     let r = refused (perform g k).reply in
     or_cases r (holds k && not before) e (left g k).unchanged
-    (λ n q. (left g k).held n (and_left (holds k) (not before) q) (inv (un_not before (and_right (holds k) (not before) q))))
+    (λ n q. (left g k).held n (and_left (holds k) (not before) q) (inv (not-true before (and_right (holds k) (not before) q))))
 
 -- the marks of a run from g, where `before` says whether the last accepted guide or prime call was a fallback
 abbrev marks_from : PlaneGuidance → Bool → List Call → List Bool

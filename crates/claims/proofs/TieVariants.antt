@@ -1,5 +1,6 @@
 -- What K5's claim names: ties on a leg and on a loiter's tangent where the roll is to the right, and for each thing that leaves it a
 -- zero a valid configuration and a tie where that thing alone holds, by computation. Assumes nothing.
+use Rattle.std.specs.Prelude.{Option, Some, None, Float}
 use mathlib.Core.Path.{◌≡◌, refl}
 use mathlib.Core.Bool.{Bool, true, false, not}
 use mathlib.Core.List.{List, [], ◌∷◌}
@@ -15,9 +16,6 @@ use Rattle.laws.specs.Math.{limit_or_zero, clamp_symmetric, all_finite}
 use Rattle.laws.specs.Types.{gravity}
 use Rattle.laws.specs.Navigation.{no_course, l1, capture, course, track_along, track_by, track_accel, finite_leg, lateral_accel, bank_for_accel}
 use Rattle.laws.specs.declared.config.PlaneGuidanceConfig.{PlaneGuidanceConfig}
-use Rattle.laws.specs.declared.types.OptionF32.TheVariants as Number
-use Rattle.laws.specs.declared.types.OptionVec2.{OptionVec2}
-use Rattle.laws.specs.declared.types.OptionVec2.TheVariants as Leg
 use Rattle.laws.specs.declared.types.WaypointCommand.{WaypointCommand}
 use Rattle.laws.specs.declared.types.VehicleState.{VehicleState}
 use Rattle.guidance.specs.Plane.{roll_of}
@@ -56,11 +54,11 @@ flying north vn ve = record {
   position_m = record { x = north; y = n0; z = n0 };
   velocity_mps = record { x = vn; y = ve; z = n0 };
   roll_rad = n0;
-  airspeed_mps = Number.None;
+  airspeed_mps = None;
 }
 
 -- to a point at (north, 0)
-abbrev to : Float → OptionVec2 → WaypointCommand
+abbrev to : Float → Option Vec2 → WaypointCommand
 to north leg = record { position_m = record { x = north; y = n0 }; velocity_mps = leg; altitude_m = n0; cruise_speed_mps = n0 }
 
 -- north, and 16 m/s straight back
@@ -70,14 +68,14 @@ north = record { x = n1; y = n0 }
 abbrev back : Float → VehicleState
 back at = flying at (f32 0xc1800000) n0
 
-on_leg : (point at : Float) → TieOnLeg (to point (Leg.Some north)) (back at) north
+on_leg : (point at : Float) → TieOnLeg (to point (Some north)) (back at) north
 unfolding finite_leg all_finite finite normalise norm dot cross root_of no_course is_nan of_bits lt le eq add sub mul div
 on_leg point at = record { leg = north; present = refl; normalised = refl; under_way = refl; straight_back = refl }
 
 -- whether the roll is above 0; then whether max_bank_rad is a zero, the capture angle NaN, the acceleration not finite, and a zero over gravity
 abbrev told : PlaneGuidanceConfig → Float → Float → List Bool
 told c point at =
-    let w = to point (Leg.Some north) in
+    let w = to point (Some north) in
     let s = back at in
     lt n0 (roll_of c w s) ∷ no_bank c ∷ is_nan (capture_angle c w s north) ∷ not (finite (quarter_turn c s)) ∷ eq (quarter_turn c s /ᶠ gravity) n0 ∷ []
 
@@ -110,6 +108,6 @@ unfolding roll_of lateral_accel finite_leg all_finite track_accel track_by track
 each_alone = (refl, refl, refl, refl, refl, refl, refl)
 
 -- 100 m north of a loiter's centre, 16 m/s west: its tangent leads east
-on_tangent : TieOnTangent (to n0 Leg.None) (flying (f32 0x42c80000) n0 (f32 0xc1800000)) (record { x = neg n0; y = n1 })
+on_tangent : TieOnTangent (to n0 None) (flying (f32 0x42c80000) n0 (f32 0xc1800000)) (record { x = neg n0; y = n1 })
 unfolding finite_leg normalise norm dot cross root_of no_course is_nan neg of_bits lt le eq add sub mul div
 on_tangent = record { outward = north; no_leg = refl; off_centre = refl; normalised = refl; under_way = refl; straight_back = refl }

@@ -8,9 +8,10 @@ use Rattle.arithmetic.proofs.Bounds.{never, and_left, and_right}
 use Rattle.laws.specs.Config.{validate}
 use Rattle.laws.specs.Tecs.{flag}
 use Rattle.laws.specs.declared.config.PlaneGuidanceConfig.{PlaneGuidanceConfig}
-use Rattle.guidance.specs.Plane.{fresh, cleared, primed, with_config, configured, restored, taken_back}
+use Rattle.guidance.specs.Plane.{fresh, cleared, primed, with_config, restored}
 use Rattle.guidance.specs.declared.plane.PlaneGuidance.{PlaneGuidance}
 use Rattle.claims.specs.Calls.{Call, guide, prime, set_config, take_back, back, perform, replies, after}
+use Rattle.claims.proofs.Performed.{set_config_is, take_back_is}
 use Rattle.claims.specs.Undone.{up_to_take_back, may_stand_between, all_may_stand, Undone}
 use Rattle.claims.proofs.Alike.{Near, replies_near}
 
@@ -22,14 +23,14 @@ record Changed (g h : PlaneGuidance) : Type 0 where
   former : g.config ≡ h.former.config
 
 by_change : (g : PlaneGuidance) (d : PlaneGuidanceConfig) → validate d ≡ 0 → Changed g (perform g (set_config d)).next
-unfolding perform configured with_config
-by_change g d e = rw (eq-eqb (validate d) 0 e) (record { altitude = refl; tecs = refl; kept = refl; former = refl })
+unfolding with_config
+by_change g d e = rw (set_config_is g d, eq-eqb (validate d) 0 e) (record { altitude = refl; tecs = refl; kept = refl; former = refl })
 
 still_changed : (g h : PlaneGuidance) → Changed g h → (k : Call) → may_stand_between k ≡ true → Changed (perform g k).next (perform h k).next
-unfolding perform primed cleared configured
+unfolding perform primed cleared
 still_changed g h p (guide dt regime input s cap) e = never e
 still_changed g h p prime e = record { altitude = refl; tecs = refl; kept = p.kept; former = p.former }
-still_changed g h p (set_config c) e = go (eqb (validate c) 0) e
+still_changed g h p (set_config c) e = rw (set_config_is g c, set_config_is h c) (go (eqb (validate c) 0) e)
   where
     go : (b : Bool) → not b ≡ true → Changed (cond b (with_config g c) g) (cond b (with_config h c) h)
     go true e = never e
@@ -45,12 +46,11 @@ between_changed g h p (k ∷ ks) e =
     (and_right (may_stand_between k) (all_may_stand ks) e)
 
 taken_reply : (g h : PlaneGuidance) → Changed g h → (perform h take_back).reply ≡ back 0
-unfolding perform taken_back
-taken_reply g h p = rw p.kept
+taken_reply g h p = rw (take_back_is h, p.kept)
 
 taken_near : (g h : PlaneGuidance) → Changed g h → Near (perform h take_back).next g
-unfolding perform taken_back restored
-taken_near g h p = rw p.kept (record { config = sym p.former; altitude = sym p.altitude; tecs = sym p.tecs })
+unfolding restored
+taken_near g h p = rw (take_back_is h, p.kept) (record { config = sym p.former; altitude = sym p.altitude; tecs = sym p.tecs })
 
 after_both : (g : PlaneGuidance) (xs ys : List Call) → after g (xs ++ ys) ≡ after (after g xs) ys
 unfolding after

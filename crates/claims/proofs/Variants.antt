@@ -1,4 +1,5 @@
 -- Why demand 3 is stated as it is: for each nearby statement a list of calls on which it fails, by computation. Assumes nothing.
+use Rattle.std.specs.Prelude.{Option, Some, None, Ok, Err, Float}
 use Prim.Native.Nat.{ℕ}
 use mathlib.Core.Path.{◌≡◌, refl}
 use mathlib.Core.Bool.{Bool, true, false, cond, not, ◌&&◌, ◌||◌}
@@ -41,9 +42,6 @@ use Rattle.laws.specs.Tecs.{
 }
 use Rattle.laws.specs.declared.config.TecsConfig.{TecsConfig}
 use Rattle.laws.specs.declared.config.PlaneGuidanceConfig.{PlaneGuidanceConfig}
-use Rattle.laws.specs.declared.types.OptionF32.{OptionF32}
-use Rattle.laws.specs.declared.types.OptionF32.TheVariants.{None, Some}
-use Rattle.laws.specs.declared.types.OptionVec2.TheVariants as Leg
 use Rattle.laws.specs.declared.types.ControlInput.TheVariants as Input
 use Rattle.laws.specs.declared.types.FlightRegime.TheVariants as Regime
 use Rattle.laws.specs.declared.types.VehicleState.{VehicleState}
@@ -77,7 +75,7 @@ use Rattle.claims.specs.Calls.{
 }
 use Rattle.claims.specs.Limits.{InForce, at_start, underspeed_at, in_force_after}
 use Rattle.guidance.specs.declared.plane.PlaneGuidance.{PlaneGuidance}
-use Rattle.guidance.specs.declared.plane.Answer.TheVariants.{Refused, Commanded, Waypoint}
+use Rattle.guidance.specs.declared.plane.Answer.TheVariants.{Commanded, Waypoint}
 
 -- ---- replies compared as bits
 bits : List Float → List ℕ
@@ -182,7 +180,7 @@ weightless =
 
 -- ---- calls: at rest at the origin, time step 1
 
-abbrev pub at_rest : OptionF32 → VehicleState
+abbrev pub at_rest : Option Float → VehicleState
 at_rest airspeed = record {
   position_m = record { x = n0; y = n0; z = n0 };
   velocity_mps = record { x = n0; y = n0; z = n0 };
@@ -191,11 +189,11 @@ at_rest airspeed = record {
 }
 
 -- to a point at this altitude, with this cruise speed and airspeed
-abbrev pub to : Float → Float → OptionF32 → Call
+abbrev pub to : Float → Float → Option Float → Call
 to altitude cruise airspeed =
     guide n1 Regime.Plane (Input.Waypoint (record {
       position_m = record { x = n0; y = n0 };
-      velocity_mps = Leg.None;
+      velocity_mps = None;
       altitude_m = altitude;
       cruise_speed_mps = cruise;
     })) (at_rest airspeed) None
@@ -223,7 +221,7 @@ abbrev steady : Float → Float → Float → Call
 steady cruise airspeed cap =
     guide n1 Regime.Plane (Input.Waypoint (record {
       position_m = record { x = n0; y = n0 };
-      velocity_mps = Leg.None;
+      velocity_mps = None;
       altitude_m = n0;
       cruise_speed_mps = cruise;
     })) (at_rest (Some airspeed)) (Some cap)
@@ -351,9 +349,9 @@ third (x ∷ y ∷ []) = n0
 third (x ∷ (y ∷ (z ∷ zs))) = z
 
 reply_obeys : InForce → Reply → Bool
-reply_obeys i (answered (Refused n)) = true
-reply_obeys i (answered (Commanded s)) = true
-reply_obeys i (answered (Waypoint a)) = thrust_obeys i (third (answer_values (Waypoint a)))
+reply_obeys i (answered (Err why)) = true
+reply_obeys i (answered (Ok (Commanded s))) = true
+reply_obeys i (answered (Ok (Waypoint a))) = thrust_obeys i (third (answer_values (Ok (Waypoint a))))
 reply_obeys i done = true
 reply_obeys i (field n) = true
 reply_obeys i (back n) = true

@@ -1,7 +1,9 @@
 -- Lists of calls, for demand 3: what one call does, a run, which calls are struck. Definitions only.
-use Rattle.std.specs.Prelude.{ℕ, Bool, true, false, cond, not, ◌&&◌, ◌||◌, List, [], ◌∷◌, eqb, Float}
+use Rattle.std.specs.Prelude.{ℕ, Bool, true, false, cond, not, ◌&&◌, ◌||◌, List, [], ◌∷◌, eqb, Float, Option, Result, Ok, Err}
+use Rattle.refusals.specs.Numbers.{number}
+use Rattle.refusals.specs.declared.Refusal.{Refusal}
+use Rattle.laws.specs.declared.config.InvalidConfig.{InvalidConfig}
 use Rattle.laws.specs.declared.config.PlaneGuidanceConfig.{PlaneGuidanceConfig}
-use Rattle.laws.specs.declared.types.OptionF32.{OptionF32}
 use Rattle.laws.specs.declared.types.ControlInput.{ControlInput}
 use Rattle.laws.specs.declared.types.ControlInput.TheVariants as Input
 use Rattle.laws.specs.declared.types.FlightRegime.{FlightRegime}
@@ -13,21 +15,19 @@ use Rattle.guidance.specs.declared.plane.VerticalLaw.{VerticalLaw}
 use Rattle.guidance.specs.declared.plane.VerticalLaw.TheVariants.{Energy, Hold, Fallback}
 use Rattle.guidance.specs.declared.plane.Answer.{Answer}
 use Rattle.guidance.specs.declared.plane.Guided.{Guided}
-use Rattle.guidance.specs.declared.plane.Configured.{Configured}
-use Rattle.guidance.specs.declared.plane.TakenBack.{TakenBack}
 
 -- ---- one call
 
 -- a guide call (time step, regime, command, sensors, cap), a prime, a set-configuration, or (document 02, K11) a taking back
 pub data Call : Type 0 where
-  guide : Float → FlightRegime → ControlInput → VehicleState → OptionF32 → Call
+  guide : Float → FlightRegime → ControlInput → VehicleState → Option Float → Call
   prime : Call
   set_config : PlaneGuidanceConfig → Call
   take_back : Call
 
 -- what the caller gets: a guide call's answer; nothing; 0 or the failing field; 0 or 14 of a taking back
 pub data Reply : Type 0 where
-  answered : Answer → Reply
+  answered : Result Answer Refusal → Reply
   done : Reply
   field : ℕ → Reply
   back : ℕ → Reply
@@ -39,18 +39,21 @@ pub record Outcome : Type 0 where
 abbrev pub answered_by : Guided → Outcome
 answered_by o = record { reply = answered o.answer; next = o.guidance }
 
-abbrev pub configured_by : Configured → Outcome
-configured_by o = record { reply = field o.field; next = o.guidance }
+-- refused, the guidance before it stays
+abbrev pub configured_by : PlaneGuidance → Result PlaneGuidance InvalidConfig → Outcome
+configured_by g (Ok h) = record { reply = field 0; next = h }
+configured_by g (Err e) = record { reply = field e.field; next = g }
 
-abbrev pub taken_back_by : TakenBack → Outcome
-taken_back_by o = record { reply = back o.refusal; next = o.guidance }
+abbrev pub taken_back_by : PlaneGuidance → Result PlaneGuidance Refusal → Outcome
+taken_back_by g (Ok h) = record { reply = back 0; next = h }
+taken_back_by g (Err why) = record { reply = back (number why); next = g }
 
 -- what the contracts of guide_capped, prime, set_config and take_back say
 unfoldable pub perform : PlaneGuidance → Call → Outcome
 perform g (guide dt regime input s cap) = answered_by (guided g dt regime input s cap)
 perform g prime = record { reply = done; next = primed g }
-perform g (set_config c) = configured_by (configured g c)
-perform g take_back = taken_back_by (taken_back g)
+perform g (set_config c) = configured_by g (configured g c)
+perform g take_back = taken_back_by g (taken_back g)
 
 -- a refusal: 2, 3 or 4 of a guide call, 1 of a set-configuration, 14 of a taking back
 abbrev pub refused : Reply → Bool

@@ -1,7 +1,7 @@
 -- Document 01, "Refusals": "with valid configuration, `clamp` there fails only on a NaN proportional thrust". The Rust's clamp fails
 -- where its bounds are crossed or one of them is NaN. Here are the bounds of every clamp that a guide call comes to, as the
 -- definitions that are named beside them have them. Definitions only.
-use Rattle.std.specs.Prelude.{◌≡◌, true, false, List, ◌∷◌, ◌++◌, Float}
+use Rattle.std.specs.Prelude.{◌≡◌, true, false, List, ◌∷◌, ◌++◌, Float, Option}
 use Rattle.std.specs.Float.Ieee as Ieee
 use Rattle.std.specs.Float.Ieee.{neg, is_nan}
 use Rattle.arithmetic.specs.Constants.{◌+ᶠ◌, ◌-ᶠ◌, ◌·ᶠ◌, ◌/ᶠ◌, n0, n1, frac_pi4}
@@ -12,7 +12,6 @@ use Rattle.laws.specs.declared.config.TecsConfig.{TecsConfig}
 use Rattle.laws.specs.declared.config.PlaneGuidanceConfig.{PlaneGuidanceConfig}
 use Rattle.laws.specs.declared.tecs.Limits.{Limits}
 use Rattle.laws.specs.declared.tecs.Inputs.{Inputs}
-use Rattle.laws.specs.declared.types.OptionF32.{OptionF32}
 use Rattle.laws.specs.declared.types.ControlInput.TheVariants as Input
 use Rattle.laws.specs.declared.types.WaypointCommand.{WaypointCommand}
 use Rattle.laws.specs.declared.types.FlightRegime.{FlightRegime}
@@ -76,7 +75,7 @@ pub record FallbackBounds (c : PlaneGuidanceConfig) (limits : Limits) : Type 0 w
 
 -- A waypoint's: with the configuration c and a call that numbers 2 and 3 do not refuse, whatever the stored state. An energy step's
 -- inputs are finite.
-pub record WaypointBounds (c : PlaneGuidanceConfig) (dt : Float) (w : WaypointCommand) (s : VehicleState) (cap : OptionF32) : Type 0 where
+pub record WaypointBounds (c : PlaneGuidanceConfig) (dt : Float) (w : WaypointCommand) (s : VehicleState) (cap : Option Float) : Type 0 where
   pub energy : all_inputs_finite (Plane.inputs dt w s) ≡ true → EnergyBounds c.tecs (limits_of c cap) (Plane.inputs dt w s)
   pub fallback : FallbackBounds c (limits_of c cap)
 
@@ -84,6 +83,6 @@ pub record WaypointBounds (c : PlaneGuidanceConfig) (dt : Float) (w : WaypointCo
 pub record ClampsOrdered (c : PlaneGuidanceConfig) (calls : List Call) : Type 0 where
   pub fixed : FixedBounds
   pub waypoints :
-      (before rest : List Call) (dt : Float) (regime : FlightRegime) (w : WaypointCommand) (s : VehicleState) (cap : OptionF32) →
+      (before rest : List Call) (dt : Float) (regime : FlightRegime) (w : WaypointCommand) (s : VehicleState) (cap : Option Float) →
       calls ≡ before ++ (guide dt regime (Input.Waypoint w) s cap ∷ rest) → bad_time_step dt ≡ false → bad_cap cap ≡ false →
       WaypointBounds (after (fresh c) before).config dt w s cap

@@ -1,6 +1,6 @@
 -- The limits of a waypoint answer, by the configuration in force and underspeed, both worked out from the calls and from
 -- which of them were refused. Definitions only.
-use Rattle.std.specs.Prelude.{◌≡◌, Bool, true, false, cond, List, [], ◌∷◌, Float}
+use Rattle.std.specs.Prelude.{◌≡◌, Bool, true, false, cond, List, [], ◌∷◌, Float, Option, Ok, Err}
 use Rattle.std.specs.Float.Ieee as Ieee
 use Rattle.std.specs.Float.Ieee.{neg}
 use Rattle.arithmetic.specs.Constants.{◌+ᶠ◌, ◌-ᶠ◌, ◌·ᶠ◌, n0}
@@ -8,7 +8,6 @@ use Rattle.arithmetic.specs.Order.{finite}
 use Rattle.laws.specs.Types.{valid_airspeed}
 use Rattle.laws.specs.declared.config.TecsConfig.{TecsConfig}
 use Rattle.laws.specs.declared.config.PlaneGuidanceConfig.{PlaneGuidanceConfig}
-use Rattle.laws.specs.declared.types.OptionF32.{OptionF32}
 use Rattle.laws.specs.declared.types.ControlInput.{ControlInput}
 use Rattle.laws.specs.declared.types.ControlInput.TheVariants as Input
 use Rattle.laws.specs.declared.types.WaypointCommand.{WaypointCommand}
@@ -21,7 +20,7 @@ use Rattle.guidance.specs.declared.plane.Former.{Former}
 use Rattle.guidance.specs.declared.plane.VerticalLaw.{VerticalLaw}
 use Rattle.guidance.specs.declared.plane.VerticalLaw.TheVariants.{Energy, Hold, Fallback}
 use Rattle.guidance.specs.declared.plane.Laws.{Laws}
-use Rattle.guidance.specs.declared.plane.Answer.TheVariants.{Refused, Commanded, Waypoint}
+use Rattle.guidance.specs.declared.plane.Answer.TheVariants.{Commanded, Waypoint}
 
 -- ---- the configuration in force, and underspeed
 
@@ -78,7 +77,7 @@ InSpan c thrust = Between c.min_thrust thrust (top_thrust c)
 
 -- Energy: pitch from -least(max_pitch_down_rad, cap) to least(max_pitch_up_rad, cap), thrust in its span, and equal as a
 -- number to the top whenever underspeed stands.
-pub record EnergyLimits (i : InForce) (cap : OptionF32) (pitch thrust : Float) : Type 0 where
+pub record EnergyLimits (i : InForce) (cap : Option Float) (pitch thrust : Float) : Type 0 where
   pub pitch_within : Between (neg (capped i.config.max_pitch_down_rad cap)) pitch (capped i.config.max_pitch_up_rad cap)
   pub thrust_within : InSpan i.config thrust
   pub thrust_top : i.underspeed ≡ true → Ieee.eq thrust (top_thrust i.config) ≡ true
@@ -89,42 +88,42 @@ pub record HoldLimits (c : PlaneGuidanceConfig) (pitch thrust : Float) : Type 0 
   pub thrust_is : thrust ≡ c.cruise_thrust
 
 -- Fallback's pitch: trim plus a correction between -down - trim and up - trim, each rounded once.
-pub record Corrected (c : PlaneGuidanceConfig) (cap : OptionF32) (pitch : Float) : Type 0 where
+pub record Corrected (c : PlaneGuidanceConfig) (cap : Option Float) (pitch : Float) : Type 0 where
   pub correction : Float
   pub sum : pitch ≡ c.trim_pitch_rad +ᶠ correction
   pub within : Between (neg (capped c.max_pitch_down_rad cap) -ᶠ c.trim_pitch_rad) correction (capped c.max_pitch_up_rad cap -ᶠ c.trim_pitch_rad)
 
 -- height error finite: corrected; else trim + 0
-abbrev pub FallbackPitch : Bool → PlaneGuidanceConfig → OptionF32 → Float → Type 0
+abbrev pub FallbackPitch : Bool → PlaneGuidanceConfig → Option Float → Float → Type 0
 FallbackPitch true c cap pitch = Corrected c cap pitch
 FallbackPitch false c cap pitch = pitch ≡ c.trim_pitch_rad +ᶠ n0
 
-pub record FallbackLimits (c : PlaneGuidanceConfig) (w : WaypointCommand) (s : VehicleState) (cap : OptionF32) (pitch thrust : Float) : Type 0 where
+pub record FallbackLimits (c : PlaneGuidanceConfig) (w : WaypointCommand) (s : VehicleState) (cap : Option Float) (pitch thrust : Float) : Type 0 where
   pub pitch_within : FallbackPitch (finite (height_error w s)) c cap pitch
   pub thrust_within : InSpan c thrust
 
-abbrev pub VerticalLimits : VerticalLaw → InForce → WaypointCommand → VehicleState → OptionF32 → Float → Float → Type 0
+abbrev pub VerticalLimits : VerticalLaw → InForce → WaypointCommand → VehicleState → Option Float → Float → Float → Type 0
 VerticalLimits Energy i w s cap pitch thrust = EnergyLimits i cap pitch thrust
 VerticalLimits Hold i w s cap pitch thrust = HoldLimits i.config pitch thrust
 VerticalLimits Fallback i w s cap pitch thrust = FallbackLimits i.config w s cap pitch thrust
 
 -- roll within ±max_bank_rad, the vertical law's limits, and the names of the laws that the call's numbers give.
 -- `i` holds what is in force after the call: its own airspeed counts before its thrust is judged.
-pub record WaypointLimits (i : InForce) (dt : Float) (w : WaypointCommand) (s : VehicleState) (cap : OptionF32) (laws : Laws) (roll pitch thrust : Float) : Type 0 where
+pub record WaypointLimits (i : InForce) (dt : Float) (w : WaypointCommand) (s : VehicleState) (cap : Option Float) (laws : Laws) (roll pitch thrust : Float) : Type 0 where
   pub roll_within : Between (neg i.config.max_bank_rad) roll i.config.max_bank_rad
   pub vertical_within : VerticalLimits (vertical_law dt w s) i w s cap pitch thrust
   pub lateral_name : laws.lateral ≡ lateral_law w s
   pub vertical_name : laws.vertical ≡ vertical_law dt w s
 
-abbrev pub SetpointLimits : InForce → Float → WaypointCommand → VehicleState → OptionF32 → Laws → Setpoint → Type 0
+abbrev pub SetpointLimits : InForce → Float → WaypointCommand → VehicleState → Option Float → Laws → Setpoint → Type 0
 SetpointLimits i dt w s cap laws (Set.Plane roll pitch thrust) = WaypointLimits i dt w s cap laws roll pitch thrust
 SetpointLimits i dt w s cap laws (Set.PlaneRate roll pitch yaw thrust) = ⊥
 
 -- A waypoint call is refused, or its answer is a waypoint's with a plane setpoint within the limits.
-abbrev pub WaypointObeys : InForce → Float → WaypointCommand → VehicleState → OptionF32 → Reply → Type 0
-WaypointObeys i dt w s cap (answered (Refused n)) = refused (answered (Refused n)) ≡ true
-WaypointObeys i dt w s cap (answered (Commanded t)) = ⊥
-WaypointObeys i dt w s cap (answered (Waypoint a)) = SetpointLimits i dt w s cap a.laws a.setpoint
+abbrev pub WaypointObeys : InForce → Float → WaypointCommand → VehicleState → Option Float → Reply → Type 0
+WaypointObeys i dt w s cap (answered (Err why)) = refused (answered (Err why)) ≡ true
+WaypointObeys i dt w s cap (answered (Ok (Commanded t))) = ⊥
+WaypointObeys i dt w s cap (answered (Ok (Waypoint a))) = SetpointLimits i dt w s cap a.laws a.setpoint
 WaypointObeys i dt w s cap done = ⊥
 WaypointObeys i dt w s cap (field n) = ⊥
 WaypointObeys i dt w s cap (back n) = ⊥

@@ -1,10 +1,9 @@
 -- Document 02, K12: what the stall guard's report says after a list of calls, and why. Definitions only.
-use Rattle.std.specs.Prelude.{◌≡◌, Bool, true, false, cond, not, ◌&&◌, ◌||◌, List, [], ◌∷◌, ◌++◌, Float}
+use Rattle.std.specs.Prelude.{◌≡◌, Bool, true, false, cond, not, ◌&&◌, ◌||◌, List, [], ◌∷◌, ◌++◌, Float, Option, Ok}
 use Rattle.std.specs.Float.Ieee as Ieee
 use Rattle.arithmetic.specs.Constants.{◌·ᶠ◌, n0}
 use Rattle.laws.specs.Types.{valid_airspeed}
 use Rattle.laws.specs.declared.config.PlaneGuidanceConfig.{PlaneGuidanceConfig}
-use Rattle.laws.specs.declared.types.OptionF32.{OptionF32}
 use Rattle.laws.specs.declared.types.ControlInput.TheVariants as Input
 use Rattle.laws.specs.declared.types.WaypointCommand.{WaypointCommand}
 use Rattle.laws.specs.declared.types.FlightRegime.{FlightRegime}
@@ -102,9 +101,9 @@ pub record StallGuardTold (c : PlaneGuidanceConfig) (calls : List Call) : Type 0
   pub stands : stall_guard (after (fresh c) calls) ≡ guard_stands (backwards (made (fresh c) calls) [])
   -- while it stands after an energy step, that step's thrust equals, as a number, the top of the span
   pub full_thrust :
-      (before rest : List Call) (dt : Float) (regime : FlightRegime) (w : WaypointCommand) (s : VehicleState) (cap : OptionF32) →
+      (before rest : List Call) (dt : Float) (regime : FlightRegime) (w : WaypointCommand) (s : VehicleState) (cap : Option Float) →
       let k = guide dt regime (Input.Waypoint w) s cap in
       let g = after (fresh c) before in
       calls ≡ before ++ (k ∷ rest) → steps k ≡ true →
-      (a : WaypointAnswer) (roll pitch thrust : Float) → (perform g k).reply ≡ answered (Waypoint a) → a.setpoint ≡ Set.Plane roll pitch thrust →
+      (a : WaypointAnswer) (roll pitch thrust : Float) → (perform g k).reply ≡ answered (Ok (Waypoint a)) → a.setpoint ≡ Set.Plane roll pitch thrust →
       stall_guard (perform g k).next ≡ true → Ieee.eq thrust (top_thrust g.config) ≡ true

@@ -1,6 +1,7 @@
 -- Document 02, K5: straight back the plane turns right. At a tie the angle steered is FRAC_PI_2 to the right, the roll of a waypoint is
 -- never below 0, and it is above 0 for every valid configuration but for what is named here. Definitions only.
-use Rattle.std.specs.Prelude.{◌≡◌, Bool, true, false, cond, not, ◌||◌, T, Float}
+use Rattle.std.specs.Prelude.{◌≡◌, Bool, true, false, cond, not, ◌||◌, T, Float, Option, Some, None, Result, Ok, Err}
+use Rattle.refusals.specs.declared.Refusal.{Refusal}
 use Rattle.std.specs.Float.Ieee as Ieee
 use Rattle.std.specs.Float.{nan, binary32}
 use Rattle.std.specs.Float.Ieee.{is_nan, fits}
@@ -9,23 +10,20 @@ use Rattle.arithmetic.specs.Order.{finite}
 use Rattle.arithmetic.specs.Trigonometry.{sine}
 use Rattle.arithmetic.specs.Vector.{norm, cross, normalise}
 use Rattle.arithmetic.specs.declared.vector.Vec2.{Vec2}
-use Rattle.arithmetic.specs.declared.vector.Normalised.TheVariants.{Parts}
 use Rattle.laws.specs.Config.{validate}
-use Rattle.laws.specs.Types.{gravity}
+use Rattle.laws.specs.Types.{gravity, north_east}
 use Rattle.laws.specs.Navigation.{least_leg, least_offset, difference, right_of, no_course, l1, capture, tie, steered_rad, finite_leg}
 use Rattle.laws.specs.declared.config.PlaneGuidanceConfig.{PlaneGuidanceConfig}
-use Rattle.laws.specs.declared.types.OptionF32.{OptionF32}
-use Rattle.laws.specs.declared.types.OptionVec2.TheVariants as Leg
 use Rattle.laws.specs.declared.types.ControlInput.TheVariants as Input
 use Rattle.laws.specs.declared.types.FlightRegime.{FlightRegime}
 use Rattle.laws.specs.declared.types.Setpoint.{Setpoint}
 use Rattle.laws.specs.declared.types.Setpoint.TheVariants as Set
 use Rattle.laws.specs.declared.types.WaypointCommand.{WaypointCommand}
 use Rattle.laws.specs.declared.types.VehicleState.{VehicleState}
-use Rattle.guidance.specs.Plane.{north_east, roll_of, guided}
+use Rattle.guidance.specs.Plane.{roll_of, guided}
 use Rattle.guidance.specs.declared.plane.PlaneGuidance.{PlaneGuidance}
 use Rattle.guidance.specs.declared.plane.Answer.{Answer}
-use Rattle.guidance.specs.declared.plane.Answer.TheVariants.{Refused, Commanded, Waypoint}
+use Rattle.guidance.specs.declared.plane.Answer.TheVariants.{Commanded, Waypoint}
 
 -- ---- a tie
 
@@ -39,8 +37,8 @@ velocity s = north_east s.velocity_mps
 -- back along the direction
 pub record TieOnLeg (w : WaypointCommand) (s : VehicleState) (direction : Vec2) : Type 0 where
   pub leg : Vec2
-  pub present : finite_leg w.velocity_mps ≡ Leg.Some leg
-  pub normalised : normalise leg least_leg ≡ Parts direction
+  pub present : finite_leg w.velocity_mps ≡ Some leg
+  pub normalised : normalise leg least_leg ≡ Some direction
   pub under_way : no_course (norm (velocity s)) ≡ false
   pub straight_back : tie direction (velocity s) ≡ true
 
@@ -48,9 +46,9 @@ pub record TieOnLeg (w : WaypointCommand) (s : VehicleState) (direction : Vec2) 
 -- to the right of the direction outward
 pub record TieOnTangent (w : WaypointCommand) (s : VehicleState) (direction : Vec2) : Type 0 where
   pub outward : Vec2
-  pub no_leg : finite_leg w.velocity_mps ≡ Leg.None
-  pub off_centre : normalise (difference (position s) w.position_m) least_offset ≡ Parts outward
-  pub normalised : normalise (right_of outward) least_leg ≡ Parts direction
+  pub no_leg : finite_leg w.velocity_mps ≡ None
+  pub off_centre : normalise (difference (position s) w.position_m) least_offset ≡ Some outward
+  pub normalised : normalise (right_of outward) least_leg ≡ Some direction
   pub under_way : no_course (norm (velocity s)) ≡ false
   pub straight_back : tie direction (velocity s) ≡ true
 
@@ -103,16 +101,16 @@ SetpointTurnsRight (Set.Plane roll pitch thrust) none = TurnsRight roll none
 SetpointTurnsRight (Set.PlaneRate roll pitch yaw thrust) none = ⊥
 
 -- a waypoint's answer is a refusal, or a plane's setpoint with such a roll
-abbrev pub AnswerTurnsRight : Answer → Bool → Type 0
-AnswerTurnsRight (Refused n) none = Unit {0}
-AnswerTurnsRight (Commanded t) none = ⊥
-AnswerTurnsRight (Waypoint a) none = SetpointTurnsRight a.setpoint none
+abbrev pub AnswerTurnsRight : Result Answer Refusal → Bool → Type 0
+AnswerTurnsRight (Err why) none = Unit {0}
+AnswerTurnsRight (Ok (Commanded t)) none = ⊥
+AnswerTurnsRight (Ok (Waypoint a)) none = SetpointTurnsRight a.setpoint none
 
 -- the waypoint's roll by this configuration, and so the answer of every guidance that has it
 pub record RollsRight (c : PlaneGuidanceConfig) (w : WaypointCommand) (s : VehicleState) (none : Bool) : Type 0 where
   pub roll : TurnsRight (roll_of c w s) none
   pub answer :
-      (g : PlaneGuidance) (dt : Float) (regime : FlightRegime) (cap : OptionF32) → g.config ≡ c →
+      (g : PlaneGuidance) (dt : Float) (regime : FlightRegime) (cap : Option Float) → g.config ≡ c →
       AnswerTurnsRight (guided g dt regime (Input.Waypoint w) s cap).answer none
 
 -- on a leg

@@ -5,15 +5,19 @@ use mathlib.Core.Bool.{Bool, true, false, cond}
 use mathlib.Core.List.{List, [], ◌∷◌, ◌++◌, append_assoc, append-nil}
 use Prim.Native.Nat.{ℕ, zero, suc, ◌+◌, ◌-◌, ◌<◌, ◌≤◌}
 use native.Mathlib.Omega.{arith}
+use borrow.Author.Tests.{leb-true, leb-false}
+use lib.Dec.{leb}
 use lib.ListN.{length, take, drop, length-drop}
 use lib.Seq.{drop-drop, length-take-le}
+use Rattle.std.specs.Prelude.{Ok, Err}
+use Rattle.refusals.specs.declared.Refusal.{Refusal}
+use Rattle.refusals.specs.declared.Refusal.TheVariants as refusal
 use Rattle.guidance.specs.declared.plane.PlaneGuidance.{PlaneGuidance}
 use Rattle.claims.specs.Calls.{Outcome, perform, refused, replies, refusals, struck, fell_back, strikes, unmarked, marks}
 use Rattle.fields.specs.Bytes.{number_at}
 use Rattle.fields.specs.Fields.{size_of}
 use Rattle.records.specs.Call.{call_fields, read_call}
-use Rattle.records.specs.declared.call.Call.{Call as Read}
-use Rattle.records.specs.declared.call.ReadCall.TheVariants as read
+use Rattle.records.specs.declared.call.ReadCall.{ReadCall}
 use Rattle.calls.specs.Calls.{call_of, as_outcome}
 use Rattle.calls.specs.declared.Performed.{Performed}
 use Rattle.lines.proofs.PutLaw.{put_long}
@@ -51,10 +55,10 @@ records_none : (s : List ℕ) → records_at s [] ≡ []
 unfolding records_at
 records_none s = refl
 
-record_is : (s : List ℕ) (at : ℕ) (c : Read) (next : ℕ) → read_call s at ≡ read.Read c next → take (next - at) (drop at s) ≡ record_at s at
+record_is : (s : List ℕ) (at : ℕ) (r : ReadCall) → read_call s at ≡ Ok r → take (r.next - at) (drop at s) ≡ record_at s at
 unfolding record_at
-record_is s at c next e =
-    let z : next - at ≡ 4 + size_of call_fields (number_at 4 (drop at s)) = omega (arith, (call_within s at c next e).0) in
+record_is s at r e =
+    let z : r.next - at ≡ 4 + size_of call_fields (number_at 4 (drop at s)) = omega (arith, (call_within s at r e).0) in
     ap (λ (k : ℕ). take k (drop at s)) z
 
 -- what holds in each turn; `left` more calls may come
@@ -79,126 +83,137 @@ module _ {s₀ : List ℕ} {from : ℕ} {first : PlaneGuidance} {s : List ℕ} {
   same_read =
       call_at_lem s at (omega (arith, f.within, f.long)) ∙ ap (λ (l : List ℕ). moved at (read_call l 0)) f.unread ∙ sym (call_at_lem s₀ at f.within)
 
-  pub close_done : length s ≤ at → Closed from first s₀ s to
-  close_done h =
-      let over : read_calls f.left s₀ at ≡ no_calls ends = calls_over s₀ at f.left (omega (arith, f.long)) in
+  -- where no record is read the input is over: the calls were read to their end
+  over : (why : Refusal) → read_call s at ≡ Err why → length s₀ ≤ at
+  over why e = go (leb (length s₀) at) refl f.left f.ended
+    where
+      go : (b : Bool) → leb (length s₀) at ≡ b → (k : ℕ) → (read_calls k s₀ at).ending ≡ ends → length s₀ ≤ at
+      go true h k q = leb-true (length s₀) at h
+      go false h zero q =
+          let z : ◌≡◌ {A = Ending} (stops refusal.TooManyCalls) ends = rw (calls_nine s₀ at (leb-false (length s₀) at h)) at q in
+          let o : ◌≡◌ {A = ℕ} 0 1 = cc in absurd (omega arith)
+      go false h (suc k) q =
+          let z : stops why ≡ ends = rw (calls_bad s₀ at k why (leb-false (length s₀) at h) (sym same_read ∙ e)) at q in
+          let o : ◌≡◌ {A = ℕ} 0 1 = cc in absurd (omega arith)
+
+  pub close_done : (why : Refusal) → read_call s at ≡ Err why → Closed from first s₀ s to
+  close_done why e =
+      let none_left : read_calls f.left s₀ at ≡ no_calls ends = calls_over s₀ at f.left (over why e) in
       record {
         long = f.long;
         within = omega (arith, f.order, f.within, f.long);
-        is = sym (append-nil (take to s)) ∙ (rw (over, stay_none g fell, records_none s₀) at f.is);
+        is = sym (append-nil (take to s)) ∙ (rw (none_left, stay_none g fell, records_none s₀) at f.is);
       }
 
-  -- no record is refused: the calls were read to their end
-  pub close_refuses : (r : ℕ) → at < length s → read_call s at ≡ read.Refused r → ⊥
-  close_refuses r h e = go f.left f.ended
-    where
-      l : at < length s₀
-      l = omega (arith, f.long)
+  module _ (r : ReadCall) (e : read_call s at ≡ Ok r) where
+    size_is : r.next ≡ at + (4 + size_of call_fields (number_at 4 (drop at s)))
+    size_is = (call_within s at r e).0
 
-      go : (k : ℕ) → (read_calls k s₀ at).ending ≡ ends → ⊥
-      go zero q =
-          let z : ◌≡◌ {A = Ending} (stops 9) ends = rw (calls_nine s₀ at l) at q in
-          let o : ◌≡◌ {A = ℕ} 0 1 = cc in omega arith
-      go (suc k) q =
-          let z : stops r ≡ ends = rw (calls_bad s₀ at k r l (sym same_read ∙ e)) at q in
-          let o : ◌≡◌ {A = ℕ} 0 1 = cc in omega arith
+    fits : r.next ≤ length s
+    fits = (call_within s at r e).1
 
-  -- the calls left are one and the others
-  pub record More (c : Read) (next : ℕ) : Type 0 where
-    pub rest : ℕ
-    pub are : read_calls f.left s₀ at ≡ with_call (record { place = at; call = c }) (read_calls rest s₀ next)
+    pub close_asks : (to ≤ at) × (at ≤ r.next) × (r.next ≤ length s)
+    close_asks = (f.order, omega (arith, size_is), fits)
 
-  more : (c : Read) (next : ℕ) → at < length s → read_call s at ≡ read.Read c next → More c next
-  more c next h e = go f.left refl
-    where
-      l : at < length s₀
-      l = omega (arith, f.long)
+    pub close_less : length s₀ - r.next < length s₀ - at
+    close_less = omega (arith, size_is, fits, f.long)
 
-      go : (k : ℕ) → f.left ≡ k → More c next
-      go zero q =
-          let z : ◌≡◌ {A = Ending} (stops 9) ends = rw (calls_nine s₀ at l) at (rw q at f.ended) in
-          let o : ◌≡◌ {A = ℕ} 0 1 = cc in absurd (omega arith)
-      go (suc k) q = record { rest = k; are = rw q (calls_more s₀ at k c next l (sym same_read ∙ e)) }
+    -- the calls left are this one and the others
+    record More : Type 0 where
+      rest : ℕ
+      are : read_calls f.left s₀ at ≡ with_call (record { place = at; call = r.call }) (read_calls rest s₀ r.next)
 
-  pub close_asks : (c : Read) (next : ℕ) → at < length s → read_call s at ≡ read.Read c next → (to ≤ at) × (at ≤ next) × (next ≤ length s)
-  close_asks c next h e = (f.order, omega (arith, (call_within s at c next e).0), (call_within s at c next e).1)
+    more : More
+    more = go f.left refl
+      where
+        l : at < length s₀
+        l = omega (arith, f.long, size_is, fits)
 
-  pub close_less : (c : Read) (next : ℕ) → at < length s → read_call s at ≡ read.Read c next → length s₀ - next < length s₀ - at
-  close_less c next h e = omega (arith, (call_within s at c next e).0, (call_within s at c next e).1, f.long)
+        go : (k : ℕ) → f.left ≡ k → More
+        go zero q =
+            let z : ◌≡◌ {A = Ending} (stops refusal.TooManyCalls) ends = rw (calls_nine s₀ at l) at (rw q at f.ended) in
+            let o : ◌≡◌ {A = ℕ} 0 1 = cc in absurd (omega arith)
+        go (suc k) q = record { rest = k; are = rw q (calls_more s₀ at k r l (sym same_read ∙ e)) }
 
-  module _ (c : Read) (next : ℕ) (h : at < length s) (e : read_call s at ≡ read.Read c next) where
-    size_is : next ≡ at + (4 + size_of call_fields (number_at 4 (drop at s)))
-    size_is = (call_within s at c next e).0
-
-    fits : next ≤ length s
-    fits = (call_within s at c next e).1
-
-    later : (l : List ℕ) (n : ℕ) → n ≤ next → drop n l ≡ drop n s → drop next l ≡ drop next s
+    later : (l : List ℕ) (n : ℕ) → n ≤ r.next → drop n l ≡ drop n s → drop r.next l ≡ drop r.next s
     later l n o q =
-        let z : n + (next - n) ≡ next = omega arith in
-        rw z at (sym (drop-drop (next - n) n l) ∙ ap (drop (next - n)) q ∙ drop-drop (next - n) n s)
+        let z : n + (r.next - n) ≡ r.next = omega arith in
+        rw z at (sym (drop-drop (r.next - n) n l) ∙ ap (drop (r.next - n)) q ∙ drop-drop (r.next - n) n s)
 
-    unread_after : drop next s ≡ drop next s₀
+    unread_after : drop r.next s ≡ drop r.next s₀
     unread_after =
-        let z : at + (next - at) ≡ next = omega (arith, size_is) in
-        rw z at (sym (drop-drop (next - at) at s) ∙ ap (drop (next - at)) f.unread ∙ drop-drop (next - at) at s₀)
+        let z : at + (r.next - at) ≡ r.next = omega (arith, size_is) in
+        rw z at (sym (drop-drop (r.next - at) at s) ∙ ap (drop (r.next - at)) f.unread ∙ drop-drop (r.next - at) at s₀)
 
-    record_at_lem : take (next - at) (drop at s) ≡ record_at s₀ at
-    record_at_lem = ap (take (next - at)) f.unread ∙ record_is s₀ at c next (sym same_read ∙ e)
+    abbrev Bytes : List ℕ
+    Bytes = take (r.next - at) (drop at s)
 
-    record_long : length (take (next - at) (drop at s)) ≡ next - at
-    record_long = length-take-le (next - at) (drop at s) (simp length-drop (omega (arith, fits)))
+    record_at_lem : Bytes ≡ record_at s₀ at
+    record_at_lem = ap (take (r.next - at)) f.unread ∙ record_is s₀ at r (sym same_read ∙ e)
+
+    record_long : length Bytes ≡ r.next - at
+    record_long = length-take-le (r.next - at) (drop at s) (simp length-drop (omega (arith, fits)))
 
     abbrev Then : Outcome
-    Then = perform g (call_of c)
+    Then = perform g (call_of r.call)
 
     abbrev Fell : Bool
-    Fell = fell_back fell (call_of c) (refused Then.reply)
+    Fell = fell_back fell (call_of r.call) (refused Then.reply)
+
+    abbrev Struck : Bool
+    Struck = struck fell (call_of r.call) (refused Then.reply)
 
     -- what the calls left come to, once this one is struck or stays
-    then_is : (b : Bool) → struck fell (call_of c) (refused Then.reply) ≡ b → (ks : More c next)
-        → let rest = stay Then.next Fell (read_calls ks.rest s₀ next).calls in
+    then_is : (b : Bool) → Struck ≡ b
+        → let rest = stay Then.next Fell (read_calls more.rest s₀ r.next).calls in
         let all = (read_calls most_calls s₀ from).calls in
-        take to s ++ records_at s₀ (cond b rest (record { place = at; call = c } ∷ rest)) ≡ take from s₀ ++ records_at s₀ (unmarked (marks first (calls_of all)) all)
-    then_is b q ks =
-        rw q at (rw (stay_cons g fell (record { place = at; call = c }) (read_calls ks.rest s₀ next).calls) at (rw ks.are at f.is))
+        take to s ++ records_at s₀ (cond b rest (record { place = at; call = r.call } ∷ rest))
+        ≡ take from s₀ ++ records_at s₀ (unmarked (marks first (calls_of all)) all)
+    then_is b q =
+        rw q at (rw (stay_cons g fell (record { place = at; call = r.call }) (read_calls more.rest s₀ r.next).calls) at (rw more.are at f.is))
 
-    ended_after : (ks : More c next) → (read_calls ks.rest s₀ next).ending ≡ ends
-    ended_after ks = rw ks.are at f.ended
+    ended_after : (read_calls more.rest s₀ r.next).ending ≡ ends
+    ended_after = rw more.are at f.ended
 
-    turn : (after : List ℕ) (r : ℕ) (ks : More c next) (b : Bool) → struck fell (call_of c) (refused Then.reply) ≡ b
-        → Moved b to (take (next - at) (drop at s)) s after r
-        → Closing s₀ from first after Then.next next r Fell
-    turn after r ks true q m = record {
-      long = ap length m.bytes ∙ f.long;
-      order = omega (arith, m.place, f.order, size_is);
+    strikes_call : Struck ≡ true → Closing s₀ from first s Then.next r.next to Fell
+    strikes_call q = record {
+      long = f.long;
+      order = omega (arith, f.order, size_is);
       within = omega (arith, fits, f.long);
-      unread = ap (drop next) m.bytes ∙ unread_after;
-      left = ks.rest;
-      ended = ended_after ks;
-      is = rw (m.place, m.bytes) (then_is true q ks);
+      unread = unread_after;
+      left = more.rest;
+      ended = ended_after;
+      is = then_is true q;
     }
-    turn after r ks false q m =
-        let bs = take (next - at) (drop at s) in
-        let room : to + length bs ≤ length s = omega (arith, record_long, f.order, fits, size_is) in
-        let kept : take r after ≡ take to s ++ record_at s₀ at = rw (m.place, m.bytes) (put_head s to bs room) ∙ ap (λ (l : List ℕ). take to s ++ l) record_at_lem in
-        let rest : drop (to + length bs) after ≡ drop (to + length bs) s = ap (drop (to + length bs)) m.bytes ∙ put_rest s to bs room in
+
+    keeps_call : (after : List ℕ) (next : ℕ) → Struck ≡ false → Moved to Bytes s after next → Closing s₀ from first after Then.next r.next next Fell
+    keeps_call after next q m =
+        let room : to + length Bytes ≤ length s = omega (arith, record_long, f.order, fits, size_is) in
+        let kept : take next after ≡ take to s ++ record_at s₀ at = rw (m.place, m.bytes) (put_head s to Bytes room) ∙ ap (λ (l : List ℕ). take to s ++ l) record_at_lem in
+        let behind : drop (to + length Bytes) after ≡ drop (to + length Bytes) s = ap (drop (to + length Bytes)) m.bytes ∙ put_rest s to Bytes room in
         record {
-          long = ap length m.bytes ∙ put_long s to bs room ∙ f.long;
+          long = ap length m.bytes ∙ put_long s to Bytes room ∙ f.long;
           order = omega (arith, m.place, record_long, f.order, size_is);
           within = omega (arith, fits, f.long);
-          unread = later after (to + length bs) (omega (arith, record_long, f.order, size_is)) rest ∙ unread_after;
-          left = ks.rest;
-          ended = ended_after ks;
+          unread = later after (to + length Bytes) (omega (arith, record_long, f.order, size_is)) behind ∙ unread_after;
+          left = more.rest;
+          ended = ended_after;
           is =
-              let tail = records_at s₀ (stay Then.next Fell (read_calls ks.rest s₀ next).calls) in
+              let tail = records_at s₀ (stay Then.next Fell (read_calls more.rest s₀ r.next).calls) in
               ap (λ (l : List ℕ). l ++ tail) kept ∙ append_assoc (take to s) (record_at s₀ at) tail
-              ∙ rw (records_cons s₀ (record { place = at; call = c }) (stay Then.next Fell (read_calls ks.rest s₀ next).calls)) at (then_is false q ks);
+              ∙ rw (records_cons s₀ (record { place = at; call = r.call }) (stay Then.next Fell (read_calls more.rest s₀ r.next).calls)) at (then_is false q);
         }
 
-    pub close_turn : (done : Performed) → as_outcome done ≡ Then → (j : Judged) → j ≡ judged fell (as_outcome done).reply → (after : List ℕ) (r : ℕ)
-        → Moved j.struck to (take (next - at) (drop at s)) s after r → Closing s₀ from first after done.guidance next r j.fell
-    close_turn done ed j ej after r m =
-        let is_judged : j ≡ marked fell (call_of c) (refused Then.reply) = ej ∙ ap (λ (o : Outcome). judged fell o.reply) ed ∙ judged_is fell g c in
-        let next_is : done.guidance ≡ Then.next = ap (λ (o : Outcome). o.next) ed in
-        rw (is_judged, next_is) (turn after r (more c next h e) (struck fell (call_of c) (refused Then.reply)) refl (rw is_judged at m))
+    module _ (done : Performed) (ed : as_outcome done ≡ Then) (j : Judged) (ej : j ≡ judged fell (as_outcome done).reply) where
+      is_judged : j ≡ marked fell (call_of r.call) (refused Then.reply)
+      is_judged = ej ∙ ap (λ (o : Outcome). judged fell o.reply) ed ∙ judged_is fell g r.call
+
+      next_is : done.guidance ≡ Then.next
+      next_is = ap (λ (o : Outcome). o.next) ed
+
+      pub close_strikes : j.struck ≡ true → Closing s₀ from first s done.guidance r.next to j.fell
+      close_strikes q = rw (is_judged, next_is) (strikes_call (rw is_judged at q))
+
+      pub close_keeps : (after : List ℕ) (next : ℕ) → j.struck ≡ false → Moved to Bytes s after next
+          → Closing s₀ from first after done.guidance r.next next j.fell
+      close_keeps after next q m = rw (is_judged, next_is) (keeps_call after next (rw is_judged at q) m)

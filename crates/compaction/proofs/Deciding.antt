@@ -2,95 +2,124 @@
 use mathlib.Core.Path.{◌≡◌, refl, sym, ap, ◌∙◌}
 use mathlib.Core.Bool.{Bool, true, false}
 use mathlib.Core.List.{List, ◌++◌}
-use Prim.Native.Nat.{ℕ, zero, suc, ◌+◌, ◌-◌, ◌≤◌}
+use Prim.Native.Nat.{ℕ, ◌+◌, ◌-◌, ◌≤◌}
 use native.Mathlib.Omega.{arith}
-use borrow.Author.Tests.{ne_eqb, eqb-true}
+use borrow.Author.Tests.{eqb-true}
 use lib.Dec.{eqb}
 use lib.ListN.{length, take, replicate}
 use lib.Seq.{length-take-le}
+use Rattle.std.specs.Prelude.{Result, Ok, Err}
+use Rattle.refusals.specs.declared.Refusal.{Refusal}
 use Rattle.laws.specs.Config.{validate}
+use Rattle.laws.specs.declared.config.InvalidConfig.{InvalidConfig}
 use Rattle.laws.specs.declared.config.PlaneGuidanceConfig.{PlaneGuidanceConfig}
 use Rattle.guidance.specs.Plane.{fresh, created}
 use Rattle.guidance.specs.declared.plane.PlaneGuidance.{PlaneGuidance}
 use Rattle.records.specs.Config.{read_config}
 use Rattle.records.specs.declared.config.ReadConfig.{ReadConfig}
-use Rattle.records.specs.declared.config.ReadConfig.TheVariants as config
 use Rattle.replay.specs.Recording.{Ending, ends, stops, read_calls, most_calls, recording}
 use Rattle.replay.proofs.Window.{config_within}
 use Rattle.compaction.specs.Compaction.{remaining, short, padded, compacted, bytes_after}
-use Rattle.compaction.specs.declared.Compacted.{Compacted}
-use Rattle.compaction.specs.declared.Compacted.TheVariants as answer
-use Rattle.compaction.specs.declared.Decided.{Decided}
-use Rattle.compaction.specs.declared.Decided.TheVariants as ruling
+use Rattle.compaction.specs.declared.BadRecording.{BadRecording}
+use Rattle.compaction.specs.declared.BadRecording.TheVariants as bad
+use Rattle.compaction.specs.declared.Sound.{Sound}
 use Rattle.compaction.specs.Code.Steps.{scanned, decided_calls, decided_new, decided_config, decided, Closed}
-use Rattle.compaction.proofs.Short.{whole}
 use Rattle.compaction.proofs.LawsProof.{config_front}
 
 -- a recording that is read to its end
-pub record Opening (s : List ℕ) (g : PlaneGuidance) (next : ℕ) : Type 0 where
+pub record Opening (s : List ℕ) (sound : Sound) : Type 0 where
   pub settings : PlaneGuidanceConfig
-  pub starts : g ≡ fresh settings
+  pub starts : sound.guidance ≡ fresh settings
   pub valid : validate settings ≡ 0
-  pub read : read_config s 0 ≡ config.Read settings next
-  pub ended : (read_calls most_calls s next).ending ≡ ends
+  pub read : read_config s 0 ≡ Ok (record { config = settings; next = sound.next })
+  pub ended : (read_calls most_calls s sound.next).ending ≡ ends
 
 -- the answer and the buffer of a recording that is refused
-abbrev pub Refuses : List ℕ → Compacted → Type 0
-Refuses s a = (a ≡ compacted s (recording s)) × (s ≡ bytes_after s (recording s))
+abbrev pub Refuses : List ℕ → BadRecording → Type 0
+Refuses s b = (Err b ≡ compacted s (recording s)) × (s ≡ bytes_after s (recording s))
 
-abbrev pub Means : List ℕ → Decided → Type 0
-Means s (ruling.Refused f) = Refuses s (answer.Refused f)
-Means s (ruling.Stopped n r) = Refuses s (answer.Stopped n r)
-Means s (ruling.Sound g next) = Opening s g next
+abbrev pub Means : List ℕ → Result Sound BadRecording → Type 0
+Means s (Err b) = Refuses s b
+Means s (Ok sound) = Opening s sound
 
 module _ (s : List ℕ) where
-  config_refused : (r : ℕ) → read_config s 0 ≡ config.Refused r → Refuses s (answer.Stopped 0 r)
+  config_refused : (why : Refusal) → read_config s 0 ≡ Err why → Refuses s (bad.Config why)
   unfolding recording compacted bytes_after
-  config_refused r e = (rw e, rw e)
+  config_refused why e = (rw e, rw e)
 
-  module _ (c : PlaneGuidanceConfig) (next : ℕ) (e : read_config s 0 ≡ config.Read c next) where
-    field_refused : eqb (validate c) 0 ≡ false → Refuses s (answer.Refused (validate c))
+  module _ (r : ReadConfig) (e : read_config s 0 ≡ Ok r) where
+    field_refused : eqb (validate r.config) 0 ≡ false → Refuses s (bad.InvalidConfig (record { field = validate r.config }))
     unfolding recording compacted bytes_after
     field_refused v = (rw (e, v), rw (e, v))
 
-    call_refused : eqb (validate c) 0 ≡ true → (r : ℕ) → (read_calls most_calls s next).ending ≡ stops r
-        → Refuses s (answer.Stopped (1 + length (read_calls most_calls s next).calls) r)
+    call_refused : eqb (validate r.config) 0 ≡ true → (why : Refusal) → (read_calls most_calls s r.next).ending ≡ stops why
+        → Refuses s (bad.Call (1 + length (read_calls most_calls s r.next).calls) why)
     unfolding recording compacted bytes_after
-    call_refused v r q = (rw (e, v, q), rw (e, v, q))
+    call_refused v why q = (rw (e, v, q), rw (e, v, q))
 
-    by_ending : eqb (validate c) 0 ≡ true → (x : Ending) → (read_calls most_calls s next).ending ≡ x → Means s (decided_calls s (fresh c) next)
+    by_ending : eqb (validate r.config) 0 ≡ true → (x : Ending) → (read_calls most_calls s r.next).ending ≡ x → Means s (decided_calls s (fresh r.config) r.next)
     unfolding decided_calls scanned
-    by_ending v ends q = rw q (record { settings = c; starts = refl; valid = eqb-true (validate c) 0 v; read = e; ended = q })
-    by_ending v (stops zero) q = absurd ((whole s most_calls next (config_within s c next e).1).proper q)
-    by_ending v (stops (suc r)) q = rw (q, ne_eqb (suc r) 0 (λ (h : suc r ≡ 0). omega arith)) (call_refused v (suc r) q)
+    by_ending v ends q = rw q (record { settings = r.config; starts = refl; valid = eqb-true (validate r.config) 0 v; read = e; ended = q })
+    by_ending v (stops why) q = rw q (call_refused v why q)
 
-    by_valid : (b : Bool) → eqb (validate c) 0 ≡ b → Means s (decided_new s next (created c))
+    by_valid : (b : Bool) → eqb (validate r.config) 0 ≡ b → Means s (decided_new s r.next (created r.config))
     unfolding created
-    by_valid true v = rw v (by_ending v (read_calls most_calls s next).ending refl)
+    by_valid true v = rw v (by_ending v (read_calls most_calls s r.next).ending refl)
     by_valid false v = rw v (field_refused v)
 
   pub means : Means s (decided s)
   unfolding decided
   means = by_config (read_config s 0) refl
     where
-      by_config : (r : ReadConfig) → read_config s 0 ≡ r → Means s (decided_config s r)
-      by_config (config.Refused r) e = config_refused r e
-      by_config (config.Read c next) e = by_valid c next e (eqb (validate c) 0) refl
+      by_config : (x : Result ReadConfig Refusal) → read_config s 0 ≡ x → Means s (decided_config s x)
+      by_config (Err why) e = config_refused why e
+      by_config (Ok r) e = by_valid r e (eqb (validate r.config) 0) refl
 
--- the same of what `decide` answered
-pub meant : (s : List ℕ) (d e : Decided) → d ≡ decided s → d ≡ e → Means s e
-meant s d e p q = rw (← q, p) (means s)
+-- ---- `decide`
+
+module _ (s : List ℕ) (x : Result Sound BadRecording) where
+  pub decides_config : (why : Refusal) × (read_config s 0 ≡ Err why) × (x ≡ Err (bad.Config why)) → x ≡ decided s
+  unfolding decided
+  decides_config (why, e, q) = rw (q, e)
+
+  module _ (r : ReadConfig) (read : read_config s 0 ≡ Ok r) where
+    pub decides_invalid : (f : InvalidConfig) × (created r.config ≡ Err f) × (x ≡ Err (bad.InvalidConfig f)) → x ≡ decided s
+    unfolding decided
+    decides_invalid (f, e, q) = rw (q, read, e)
+
+    module _ (g : PlaneGuidance) (made : created r.config ≡ Ok g) where
+      pub decides_call : (b : BadRecording) × (scanned 1 (read_calls most_calls s r.next) ≡ Err b) × (x ≡ Err b) → x ≡ decided s
+      unfolding decided decided_calls
+      decides_call (b, e, q) = rw (q, read, made, e)
+
+      pub decides_sound : scanned 1 (read_calls most_calls s r.next) ≡ Ok tt → x ≡ Ok (record { guidance = g; next = r.next }) → x ≡ decided s
+      unfolding decided decided_calls
+      decides_sound e q = rw (q, read, made, e)
+
+-- what `decide` answered, and `compact` then answers
+pub refuses : (s : List ℕ) (x : Result ℕ BadRecording) → (b : BadRecording) × (decided s ≡ Err b) × (x ≡ Err b)
+    → (x ≡ compacted s (recording s)) × (s ≡ bytes_after s (recording s))
+refuses s x (b, e, q) = let m : Refuses s b = rw e at (means s) in (q ∙ m.0, m.1)
+
+pub opens : (s : List ℕ) (sound : Sound) → decided s ≡ Ok sound → Opening s sound
+opens s sound e = rw e at (means s)
 
 -- ---- after the second pass
 
-module _ {s : List ℕ} {g : PlaneGuidance} {next : ℕ} (o : Opening s g next) where
+module _ {s : List ℕ} {sound : Sound} (o : Opening s sound) where
+  abbrev next : ℕ
+  next = sound.next
+
+  abbrev g : PlaneGuidance
+  g = sound.guidance
+
   pub asks : (next ≤ length s) × ((read_calls most_calls s next).ending ≡ ends)
-  asks = ((config_within s o.settings next o.read).1, o.ended)
+  asks = ((config_within s (record { config = o.settings; next = next }) o.read).1, o.ended)
 
   abbrev Short : List ℕ
   Short = short s o.settings (read_calls most_calls s next).calls
 
-  answer_is : compacted s (recording s) ≡ answer.Length (length Short)
+  answer_is : compacted s (recording s) ≡ Ok (length Short)
   unfolding recording compacted
   answer_is = rw (o.read, o.valid, o.ended)
 
@@ -104,12 +133,12 @@ module _ {s : List ℕ} {g : PlaneGuidance} {next : ℕ} (o : Opening s g next) 
   front_is after r f = rw (config_front s o.settings next o.read, o.starts) at f.is
 
   pub finished : (after cleared : List ℕ) (r : ℕ) → Closed next g s after r → cleared ≡ take r after ++ replicate (length after - r) 0
-      → (answer.Length r ≡ compacted s (recording s)) × (cleared ≡ bytes_after s (recording s))
+      → (Ok r ≡ compacted s (recording s)) × (cleared ≡ bytes_after s (recording s))
   unfolding padded
   finished after cleared r f q =
       let front : take r after ≡ Short = front_is after r f in
       let long : r ≡ length Short = sym (length-take-le r after f.within) ∙ ap length front in (
-        ap (λ (n : ℕ). answer.Length n) long ∙ sym answer_is,
+        ap (λ (n : ℕ). Ok n) long ∙ sym answer_is,
         q ∙ ap (λ (l : List ℕ). l ++ replicate (length after - r) 0) front ∙ ap (λ (n : ℕ). Short ++ replicate n 0) (count long f) ∙ sym bytes_are,
       )
     where

@@ -1,5 +1,6 @@
 -- Document 02, K7: "Compact a recording, the desk program's input, inside its buffer". Definitions only.
-use Rattle.std.specs.Prelude.{cond, List, [], ◌∷◌, ◌++◌, ℕ, ◌+◌, ◌-◌, eqb, length, take, drop, replicate}
+use Rattle.std.specs.Prelude.{cond, List, [], ◌∷◌, ◌++◌, ℕ, ◌+◌, ◌-◌, eqb, length, take, drop, replicate, Some, None, Result, Ok, Err}
+use Rattle.refusals.specs.Numbers.{number}
 use Rattle.laws.specs.Config.{validate}
 use Rattle.laws.specs.declared.config.PlaneGuidanceConfig.{PlaneGuidanceConfig}
 use Rattle.guidance.specs.Plane.{fresh}
@@ -12,8 +13,8 @@ use Rattle.calls.specs.Calls.{call_of}
 use Rattle.lines.specs.declared.Line.{Line}
 use Rattle.replay.specs.Recording.{Recorded, Ending, ends, stops, Recording, bad_config, recorded}
 use Rattle.replay.specs.Text.{refused_line, stopped_line}
-use Rattle.compaction.specs.declared.Compacted.{Compacted}
-use Rattle.compaction.specs.declared.Compacted.TheVariants as answer
+use Rattle.compaction.specs.declared.BadRecording.{BadRecording}
+use Rattle.compaction.specs.declared.BadRecording.TheVariants as bad
 
 -- ---- records as they were spelled: a map, and the bytes that it demands
 
@@ -49,24 +50,29 @@ padded n bs = bs ++ replicate (n - length bs) 0
 
 -- ---- the answer and the buffer: a recording that the desk program would not read to its end is refused and kept
 
-abbrev pub compacted_calls : List ℕ → PlaneGuidanceConfig → List Recorded → Ending → Compacted
-compacted_calls s c ks ends = answer.Length (length (short s c ks))
-compacted_calls s c ks (stops r) = answer.Stopped (1 + length ks) r
+abbrev pub compacted_calls : List ℕ → PlaneGuidanceConfig → List Recorded → Ending → Result ℕ BadRecording
+compacted_calls s c ks ends = Ok (length (short s c ks))
+compacted_calls s c ks (stops why) = Err (bad.Call (1 + length ks) why)
 
-unfoldable pub compacted : List ℕ → Recording → Compacted
-compacted s (bad_config r) = answer.Stopped 0 r
-compacted s (recorded c calls) = cond (eqb (validate c) 0) (compacted_calls s c calls.calls calls.ending) (answer.Refused (validate c))
+unfoldable pub compacted : List ℕ → Recording → Result ℕ BadRecording
+compacted s (bad_config why) = Err (bad.Config why)
+compacted s (recorded c calls) =
+    cond (eqb (validate c) 0) (compacted_calls s c calls.calls calls.ending) (Err (bad.InvalidConfig (record { field = validate c })))
 
 abbrev pub bytes_of_calls : List ℕ → PlaneGuidanceConfig → List Recorded → Ending → List ℕ
 bytes_of_calls s c ks ends = padded (length s) (short s c ks)
-bytes_of_calls s c ks (stops r) = s
+bytes_of_calls s c ks (stops why) = s
 
 unfoldable pub bytes_after : List ℕ → Recording → List ℕ
-bytes_after s (bad_config r) = s
+bytes_after s (bad_config why) = s
 bytes_after s (recorded c calls) = cond (eqb (validate c) 0) (bytes_of_calls s c calls.calls calls.ending) s
 
 -- the desk program's line of a refusal
-abbrev pub refusal_lines : Compacted → List Line
-refusal_lines (answer.Length n) = []
-refusal_lines (answer.Refused f) = refused_line 0 f ∷ []
-refusal_lines (answer.Stopped n r) = stopped_line n r ∷ []
+abbrev pub line_of : BadRecording → Line
+line_of (bad.InvalidConfig invalid) = refused_line None invalid.field
+line_of (bad.Config why) = stopped_line None (number why)
+line_of (bad.Call n why) = stopped_line (Some n) (number why)
+
+abbrev pub refusal_lines : Result ℕ BadRecording → List Line
+refusal_lines (Ok n) = []
+refusal_lines (Err b) = line_of b ∷ []

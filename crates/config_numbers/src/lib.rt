@@ -6,7 +6,7 @@ ghost use Rattle.laws.specs.Config.{default};
 ghost use Rattle.fields.specs.Numbers.{floats_of, bits_of};
 ghost use Rattle.config_numbers.specs.Numbers.{config_of, numbers_of};
 
-use fields::numbers::{bits, floats};
+use fields::numbers::{bits_of as bits, floats_of as floats};
 use laws::config::{PlaneGuidanceConfig, TecsConfig, default};
 use laws::types::Vec3;
 
@@ -108,10 +108,7 @@ fn numbers_of(c: PlaneGuidanceConfig) -> [f32; 33]
 pub fn bits_of(c: PlaneGuidanceConfig) -> [u32; 33]
     ensures { result ≡ bits_of (numbers_of c) }
 {
-    let v = numbers_of(c);
-    let mut b = [0u32; 33];
-    bits(&v, &mut b);
-    b
+    bits(numbers_of(c))
 }
 
 // What missing fields mean.
@@ -125,7 +122,5 @@ pub fn default_bits() -> [u32; 33]
 pub fn config_of_bits(b: [u32; 33]) -> PlaneGuidanceConfig
     ensures { result ≡ config_of (floats_of b) }
 {
-    let mut v = [0.0f32; 33];
-    floats(&b, &mut v);
-    config_of(v)
+    config_of(floats(b))
 }

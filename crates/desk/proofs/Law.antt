@@ -8,7 +8,7 @@ use lib.Seq.{length-take-le, take-append_seam}
 use Rattle.fields.specs.Bytes.{put_at}
 use Rattle.replay.specs.Sizes.{decisive, text_room}
 use Rattle.replay.specs.Text.{recording_text}
-use Rattle.replay.proofs.CallsLaw.{text_fits}
+use Rattle.replay.proofs.TextLaw.{text_fits}
 use Rattle.replay.proofs.Cut.{text_read}
 use Rattle.lines.proofs.PutLaw.{put_long}
 use Rattle.desk.specs.Shown.{Shown}

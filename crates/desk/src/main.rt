@@ -10,18 +10,9 @@ ghost use Rattle.replay.specs.Sizes.{text_room};
 ghost use Rattle.replay.specs.Text.{recording_text};
 ghost use Rattle.desk.specs.Shown.{Shown};
 
-use input::{input_room, read_from};
+use input::{Failure, input_room, read_from};
+use replay::TEXT_ROOM;
 use std::io::{Read, Write};
-
-// 4,097 lines of 80 bytes: room for every text.
-const TEXT_ROOM: usize = 4097 * 80;
-
-// What failed.
-#[derive(Clone, Copy)]
-enum Failure {
-    Read,
-    Write,
-}
 
 fn text_room() -> [u8; TEXT_ROOM]
     ensures { text_room ≡ length result }
@@ -44,25 +35,15 @@ fn print<R: Read, W: Write>(reader: &mut R, writer: &mut W) -> Result<(), Failur
     ensures unread { IsErrOf result Failure.Read → Keeps (W.contents writer.old) (W.contents writer.new) }
 {
     let mut bytes = input_room();
-    let got = read_from(reader, &mut bytes);
-    if got.failed {
-        return Err(Failure::Read);
-    }
-    let size = got.size;
+    let size = read_from(reader, &mut bytes)?;
     let mut out = text_room();
     let n = show(&bytes[..size], &mut out);
-    match writer.write_all(&out[..n]) {
-        Ok(()) => Ok(()),
-        Err(_) => Err(Failure::Write),
-    }
+    writer.write_all(&out[..n]).map_err(|_| Failure::Write)
 }
 
 fn main(rt: HostRuntime) {
-    let done = print(&mut rt.reader(), &mut rt.stdout());
-    // A line that standard error does not take is lost.
-    let _ = match done {
-        Ok(()) => Ok(()),
-        Err(Failure::Read) => eprintln!(rt; "desk: standard input cannot be read"),
-        Err(Failure::Write) => eprintln!(rt; "desk: standard output cannot be written"),
-    };
+    if let Err(failure) = print(&mut rt.reader(), &mut rt.stdout()) {
+        // A line that standard error does not take is lost.
+        let _ = eprintln!(rt; "desk: {failure}");
+    }
 }

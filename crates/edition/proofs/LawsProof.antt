@@ -8,16 +8,16 @@ use borrow.Author.Tests.{leb-true, leb-false}
 use lib.Dec.{leb}
 use lib.ListN.{length, drop, length-append, length-drop}
 use lib.Seq.{drop-drop, drop-append_seam}
+use Rattle.std.specs.Prelude.{Result, Ok, Err}
+use Rattle.refusals.specs.declared.Refusal.{Refusal}
 use Rattle.records.specs.declared.call.Call.{Call}
 use Rattle.records.specs.declared.call.ReadCall.{ReadCall}
-use Rattle.records.specs.declared.call.ReadCall.TheVariants.{Read, Refused}
 use Rattle.record_laws.specs.Laws.{CallF32}
 use Rattle.editions.specs.declared.Edition.{Edition}
 use Rattle.editions.specs.Edition.{read_as, record_as, other}
 use Rattle.edition_laws.proofs.ThereAndBack.{other_twice}
 use Rattle.edition_laws.proofs.EditionBack.{edition_laws, edition_long, edition_held, edition_stands, edition_same}
 use Rattle.replay.specs.Recording.{Recorded, ends, no_calls, on_read}
-use Rattle.edition.specs.declared.Done.TheVariants.{Size}
 use Rattle.edition.specs.Conversion.{read_records, records, records_of, converted}
 use Rattle.edition.specs.Laws.{Enough, calls_of, Back}
 use Rattle.edition.proofs.Reading.{read_over, read_bad, read_call_lem}
@@ -30,19 +30,19 @@ enough e s at zero (suc n) h k = read_over e s at zero (omega arith) ∙ sym (re
 enough e s at (suc m) zero h k = read_over e s at (suc m) (omega arith) ∙ sym (read_over e s at zero (omega arith))
 enough e s at (suc m) (suc n) h k = go (leb (length s) at) refl (read_as e s at) refl (λ (next : ℕ). enough e s next m n)
   where
-    go : (b : Bool) → leb (length s) at ≡ b → (a : ReadCall) → read_as e s at ≡ a
+    go : (b : Bool) → leb (length s) at ≡ b → (a : Result ReadCall Refusal) → read_as e s at ≡ a
         → ((next : ℕ) → length s ≤ next + m → length s ≤ next + n → read_records m e s next ≡ read_records n e s next)
         → read_records (suc m) e s at ≡ read_records (suc n) e s at
     go true b a q ih =
         let over : length s ≤ at = leb-true (length s) at b in
         read_over e s at (suc m) over ∙ sym (read_over e s at (suc n) over)
-    go false b (Refused r) q ih =
+    go false b (Err why) q ih =
         let more : at < length s = leb-false (length s) at b in
-        read_bad e s at m r more q ∙ sym (read_bad e s at n r more q)
-    go false b (Read c next) q ih =
+        read_bad e s at m why more q ∙ sym (read_bad e s at n why more q)
+    go false b (Ok r) q ih =
         let more : at < length s = leb-false (length s) at b in
-        let further : at + 4 ≤ next = omega (arith, ((edition_laws e).again s at c next q).0, edition_long e c) in
-        rw (read_call_lem e s at m c next more q, read_call_lem e s at n c next more q, ih next (omega arith) (omega arith))
+        let further : at + 4 ≤ r.next = omega (arith, ((edition_laws e).again s at r.call r.next q).0, edition_long e r.call) in
+        rw (read_call_lem e s at m r more q, read_call_lem e s at n r more q, ih r.next (omega arith) (omega arith))
 
 -- ---- what was written is read
 
@@ -56,11 +56,11 @@ unfolding AllF32 read_records
 held zero e s at = tt
 held (suc n) e s at = go (leb (length s) at) (read_as e s at) refl (held n e s)
   where
-    go : (b : Bool) (a : ReadCall) → read_as e s at ≡ a → ((next : ℕ) → AllF32 (read_records n e s next).calls)
+    go : (b : Bool) (a : Result ReadCall Refusal) → read_as e s at ≡ a → ((next : ℕ) → AllF32 (read_records n e s next).calls)
         → AllF32 (cond b (no_calls ends) (on_read at a (λ (next : ℕ). read_records n e s next))).calls
     go true a q ih = tt
-    go false (Refused r) q ih = tt
-    go false (Read c next) q ih = (edition_held e s at c next q, ih next)
+    go false (Err why) q ih = tt
+    go false (Ok r) q ih = (edition_held e s at r.call r.next q, ih r.next)
 
 -- a record has a byte or more
 counted : (e : Edition) (ks : List Recorded) → length ks ≤ length (records_of e ks)
@@ -83,7 +83,7 @@ stand e (k ∷ ks) f t at (suc n) h d l =
     let more : at < length t = omega (arith, size, edition_long e k.call) in
     let rest : drop (at + length r) t ≡ records_of e ks = sym (drop-drop (length r) at t) ∙ ap (drop (length r)) d ∙ drop-append_seam r (records_of e ks) in
     let ih = stand e ks f.1 t (at + length r) n (omega (arith, size)) rest (omega arith) in
-    rw (read_call_lem e t at n k.call (at + length r) more q) (ap (λ (cs : List Call). k.call ∷ cs) ih.0, ih.1)
+    rw (read_call_lem e t at n (record { call = k.call; next = at + length r }) more q) (ap (λ (cs : List Call). k.call ∷ cs) ih.0, ih.1)
 
 -- ---- and written again
 
@@ -114,5 +114,5 @@ back wanted s x =
       same = read.0;
       ending = read.1;
       bytes = rw (other_twice wanted) again;
-      answer = rw (other_twice wanted, read.1) (ap Size (ap length again ∙ same_length (other wanted) wanted ks));
+      answer = rw (other_twice wanted, read.1) (ap (λ (k : ℕ). Ok k) (ap length again ∙ same_length (other wanted) wanted ks));
     }

@@ -7,9 +7,9 @@ use native.Mathlib.Omega.{arith}
 use borrow.Author.Tests.{le-leb, lt-leb, leb-true, leb-false}
 use lib.Dec.{leb}
 use lib.ListN.{length, length-append}
-use Rattle.records.specs.declared.call.Call.{Call}
+use Rattle.std.specs.Prelude.{Result, Ok, Err}
+use Rattle.refusals.specs.declared.Refusal.{Refusal}
 use Rattle.records.specs.declared.call.ReadCall.{ReadCall}
-use Rattle.records.specs.declared.call.ReadCall.TheVariants.{Read, Refused}
 use Rattle.editions.specs.declared.Edition.{Edition}
 use Rattle.editions.specs.Edition.{read_as, record_as, other}
 use Rattle.edition_laws.proofs.EditionBack.{edition_laws, edition_within, edition_same}
@@ -22,14 +22,14 @@ module _ (e : Edition) (s : List ℕ) (at : ℕ) where
   read_over zero h = refl
   read_over (suc n) h = rw (le-leb (length s) at h)
 
-  pub read_bad : (n r : ℕ) → at < length s → read_as e s at ≡ Refused r → read_records (suc n) e s at ≡ no_calls (stops r)
+  pub read_bad : (n : ℕ) (why : Refusal) → at < length s → read_as e s at ≡ Err why → read_records (suc n) e s at ≡ no_calls (stops why)
   unfolding read_records
-  read_bad n r h q = rw (lt-leb (length s) at h, q)
+  read_bad n why h q = rw (lt-leb (length s) at h, q)
 
-  pub read_call_lem : (n : ℕ) (c : Call) (next : ℕ) → at < length s → read_as e s at ≡ Read c next
-      → read_records (suc n) e s at ≡ with_call (record { place = at; call = c }) (read_records n e s next)
+  pub read_call_lem : (n : ℕ) (r : ReadCall) → at < length s → read_as e s at ≡ Ok r
+      → read_records (suc n) e s at ≡ with_call (record { place = at; call = r.call }) (read_records n e s r.next)
   unfolding read_records
-  read_call_lem n c next h q = rw (lt-leb (length s) at h, q)
+  read_call_lem n r h q = rw (lt-leb (length s) at h, q)
 
 -- what is written of the records from a place on
 abbrev pub left : ℕ → Edition → List ℕ → ℕ → List ℕ
@@ -41,12 +41,12 @@ unfolding read_records records_of
 left_short zero wanted s at = omega arith
 left_short (suc n) wanted s at = go (leb (length s) at) refl (read_as (other wanted) s at) refl (left_short n wanted s)
   where
-    go : (b : Bool) → leb (length s) at ≡ b → (a : ReadCall) → read_as (other wanted) s at ≡ a
+    go : (b : Bool) → leb (length s) at ≡ b → (a : Result ReadCall Refusal) → read_as (other wanted) s at ≡ a
         → ((next : ℕ) → length (left n wanted s next) ≤ length s - next) → length (left (suc n) wanted s at) ≤ length s - at
     go true h a q ih = rw (read_over (other wanted) s at (suc n) (leb-true (length s) at h)) (omega arith)
-    go false h (Refused r) q ih = rw (read_bad (other wanted) s at n r (leb-false (length s) at h) q) (omega arith)
-    go false h (Read c next) q ih =
-        let short : at + length (record_as (other wanted) c) ≤ next = ((edition_laws (other wanted)).again s at c next q).0 in
-        let inside : next ≤ length s = edition_within (other wanted) s at c next q in
-        rw (read_call_lem (other wanted) s at n c next (leb-false (length s) at h) q)
-        (simp length-append (omega (arith, ih next, edition_same (other wanted) wanted c)))
+    go false h (Err why) q ih = rw (read_bad (other wanted) s at n why (leb-false (length s) at h) q) (omega arith)
+    go false h (Ok r) q ih =
+        let short : at + length (record_as (other wanted) r.call) ≤ r.next = ((edition_laws (other wanted)).again s at r.call r.next q).0 in
+        let inside : r.next ≤ length s = edition_within (other wanted) s at r.call r.next q in
+        rw (read_call_lem (other wanted) s at n r (leb-false (length s) at h) q)
+        (simp length-append (omega (arith, ih r.next, edition_same (other wanted) wanted r.call)))

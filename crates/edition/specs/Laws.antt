@@ -1,10 +1,9 @@
 -- What is wanted of converting records one behind the other, for every input. Statements only; proofs/LawsProof.antt proves them.
-use Rattle.std.specs.Prelude.{◌≡◌, List, [], ◌∷◌, ℕ, ◌+◌, ◌≤◌, length}
+use Rattle.std.specs.Prelude.{◌≡◌, List, [], ◌∷◌, ℕ, ◌+◌, ◌≤◌, length, Ok}
 use Rattle.records.specs.declared.call.Call.{Call}
 use Rattle.editions.specs.declared.Edition.{Edition}
 use Rattle.editions.specs.Edition.{other}
 use Rattle.replay.specs.Recording.{Recorded, ends}
-use Rattle.edition.specs.declared.Done.TheVariants.{Size}
 use Rattle.edition.specs.Conversion.{read_records, records, records_of, converted}
 
 -- more turns than bytes from the place on read no more
@@ -22,4 +21,4 @@ pub record Back (wanted : Edition) (s : List ℕ) (x : ℕ) : Type 0 where
   pub same : calls_of (records wanted (x ∷ (converted wanted s).bytes)).calls ≡ calls_of (records (other wanted) s).calls
   pub ending : (records wanted (x ∷ (converted wanted s).bytes)).ending ≡ ends
   pub bytes : (converted (other wanted) (x ∷ (converted wanted s).bytes)).bytes ≡ records_of (other wanted) (records (other wanted) s).calls
-  pub answer : (converted (other wanted) (x ∷ (converted wanted s).bytes)).answer ≡ Size (length (converted wanted s).bytes)
+  pub answer : (converted (other wanted) (x ∷ (converted wanted s).bytes)).answer ≡ Ok (length (converted wanted s).bytes)

@@ -9,28 +9,22 @@ ghost use Rattle.fields.specs.Bytes.{put_at};
 ghost use Rattle.replay.specs.Sizes.{decisive};
 ghost use Rattle.edition.specs.Conversion.{converted, conversion, AnswersWhole, output_of};
 
-use editions::{Converted, Edition, convert};
-use input::{INPUT_ROOM, input_room, read_from, tell};
+use editions::{Edition, convert};
+use input::{Failure, INPUT_ROOM, input_room, read_from, tell};
+use refusals::Refusal;
 use replay::turn::stopped_line;
 use std::io::{Read, Write};
 
-// How many bytes were written; or the number of the record that was refused, and its refusal; or that the input is too long.
+// Why the input is refused: its first byte is no edition, the record of a number, from 1, or too many bytes.
 #[derive(Clone, Copy)]
-enum Done {
-    Size(usize),
-    Stopped { number: u32, refusal: u32 },
+enum Refused {
+    NoEdition,
+    Record { number: u32, why: Refusal },
     TooLong,
 }
 
-// What failed.
-#[derive(Clone, Copy)]
-enum Failure {
-    Read,
-    Write,
-}
-
 // Converts the records behind the first byte. No record is longer than the one it was read from, so that the buffer has room.
-fn convert_all(s: &[u8], wanted: Edition, out: &mut [u8]) -> Done
+fn convert_all(s: &[u8], wanted: Edition, out: &mut [u8]) -> Result<usize, Refused>
     requires { (length s.now < decisive) × (length s.now ≤ length out.old) }
     ensures { (result ≡ (converted wanted s.now).answer) × (out.new ≡ put_at out.old 0 (converted wanted s.now).bytes) }
 {
@@ -38,49 +32,35 @@ fn convert_all(s: &[u8], wanted: Edition, out: &mut [u8]) -> Done
     let mut to: usize = 0;
     let mut n: u32 = 1;
     while at < s.len() {
-        let done = convert(s, at, wanted, out, to);
-        match done {
-            Converted::Refused(r) => {
-                return Done::Stopped {
-                    number: n,
-                    refusal: r as u32,
-                };
-            }
-            Converted::Places { read, written } => {
-                at = read;
-                to = written;
-                n += 1;
-            }
-        }
+        let done = convert(s, at, wanted, out, to).map_err(|why| Refused::Record {
+            number: n,
+            why,
+        })?;
+        at = done.read;
+        to = done.written;
+        n += 1;
     }
-    Done::Size(to)
+    Ok(to)
 }
 
 // Answers the input of which these bytes were read. Its first byte is the wanted edition.
-fn convert_file(s: &[u8], out: &mut [u8]) -> Done
+fn convert_file(s: &[u8], out: &mut [u8]) -> Result<usize, Refused>
     requires { length s.now ≤ length out.old }
     ensures { AnswersWhole s.now out.old out.new result }
 {
     if INPUT_ROOM <= s.len() {
-        return Done::TooLong;
+        return Err(Refused::TooLong);
     }
-    if 0 < s.len() {
-        let wanted = s[0];
-        if wanted == 1 {
-            return convert_all(s, Edition::First, out);
-        }
-        if wanted == 2 {
-            return convert_all(s, Edition::Second, out);
-        }
-    }
-    Done::Stopped {
-        number: 0,
-        refusal: 255,
-    }
+    let first = s.first().ok_or(Refused::NoEdition)?;
+    let wanted = Edition::from_number(u32::from(*first)).ok_or(Refused::NoEdition)?;
+    convert_all(s, wanted, out)
 }
 
 // Writes the records of all that the reader has left, or nothing where they are refused.
-fn convert_input<R: Read, W: Write>(reader: &mut R, writer: &mut W) -> Result<Done, Failure>
+fn convert_input<R: Read, W: Write>(
+    reader: &mut R,
+    writer: &mut W,
+) -> Result<Result<usize, Refused>, Failure>
     ensures answer { IfOk result (λ done. IfSome (R.remaining reader.old)
         (λ input. done ≡ (conversion input).answer)) }
     ensures written { IfOk result (λ _. IfSome (R.remaining reader.old)
@@ -88,17 +68,11 @@ fn convert_input<R: Read, W: Write>(reader: &mut R, writer: &mut W) -> Result<Do
     ensures unread { IsErrOf result Failure.Read → Keeps (W.contents writer.old) (W.contents writer.new) }
 {
     let mut bytes = input_room();
-    let got = read_from(reader, &mut bytes);
-    if got.failed {
-        return Err(Failure::Read);
-    }
-    let size = got.size;
+    let size = read_from(reader, &mut bytes)?;
     let mut out = input_room();
     let done = convert_file(&bytes[..size], &mut out);
-    if let Done::Size(n) = done {
-        if writer.write_all(&out[..n]).is_err() {
-            return Err(Failure::Write);
-        }
+    if let Ok(n) = done {
+        writer.write_all(&out[..n]).map_err(|_| Failure::Write)?;
     }
     Ok(done)
 }
@@ -107,13 +81,18 @@ fn main(rt: HostRuntime) {
     let done = convert_input(&mut rt.reader(), &mut rt.stdout());
     // A line that standard error does not take is lost.
     let _ = match done {
-        Ok(Done::Size(_)) => Ok(()),
-        Ok(Done::TooLong) => eprintln!(rt; "edition: standard input has more than 352393 bytes"),
-        Ok(Done::Stopped { number, refusal }) => tell(
-            &mut rt.stderr(),
-            stopped_line(number, refusal),
+        Ok(Ok(_)) => Ok(()),
+        Ok(Err(Refused::TooLong)) => eprintln!(rt;
+            "edition: standard input has more than 352393 bytes"
         ),
-        Err(Failure::Read) => eprintln!(rt; "edition: standard input cannot be read"),
-        Err(Failure::Write) => eprintln!(rt; "edition: standard output cannot be written"),
+        Ok(Err(Refused::NoEdition)) => tell(
+            &mut rt.stderr(),
+            stopped_line(None, Refusal::UnknownRequest),
+        ),
+        Ok(Err(Refused::Record { number, why })) => tell(
+            &mut rt.stderr(),
+            stopped_line(Some(number), why),
+        ),
+        Err(failure) => eprintln!(rt; "edition: {failure}"),
     };
 }

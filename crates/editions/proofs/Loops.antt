@@ -1,17 +1,18 @@
--- What holds in each turn of `turn` and of `copied`. Assumes nothing.
+-- What holds in each turn of `turn`. Assumes nothing.
 use mathlib.Core.Path.{◌≡◌, refl, sym, ap, subst, ◌∙◌}
 use mathlib.Core.Bool.{Bool, true, false, not, ◌||◌}
 use mathlib.Core.List.{List, [], ◌∷◌, ◌++◌, append_assoc}
-use Prim.Native.Nat.{ℕ, zero, suc, ◌+◌, ◌-◌, ◌/◌, ◌%◌, ◌<◌, ◌≤◌}
+use Prim.Native.Nat.{ℕ, zero, suc, ◌+◌, ◌-◌, ◌/◌, ◌%◌, ◌^◌, ◌<◌, ◌≤◌}
 use native.Mathlib.Omega.{arith}
 use native.Mathlib.Numerals.{add-one}
-use borrow.Author.Tests.{eq-eqb, ne_eqb, le-ltb}
+use borrow.Author.Tests.{eq-eqb, ne_eqb, eqb-true, eqb-false, le-ltb}
 use borrow.Rule.Slice.PartMut.{put_mid}
 use lib.Dec.{T, eqb}
-use lib.ListN.{length, set, get_or, take, drop, replicate, length-append, length-drop, length-set, take-append-drop, drop_of_length-le}
-use lib.Seq.{take_at, drop_at, take-suc, take-suc-set, drop-cons, drop-drop, get_or-drop, length-take-le}
+use lib.Pow.{shr-shr}
+use lib.ListN.{length, get_or, take, drop, replicate, length-append, length-drop, take-append-drop, drop_of_length-le}
+use lib.Seq.{take_at, drop_at, drop-cons, drop-drop, length-take-le}
 use Rattle.fields.specs.Bytes.{number_at, bytes_of}
-use Rattle.fields.specs.Fields.{Field, size_of, number_fields}
+use Rattle.fields.specs.Fields.{Field, bit, size_of, number_fields}
 use Rattle.fields.proofs.FieldLaw.{rest_is, rest_back}
 use Rattle.records.specs.Call.{call_fields}
 use Rattle.records.proofs.CallLaw.{fields_are, fields_long}
@@ -93,26 +94,31 @@ module _ (p : List ℕ) (at n : ℕ) (h : at + bytes_at n ≤ length p) where
 
 -- ---- `turn`
 
-pub record Turning (p₀ : List ℕ) (map : ℕ) (p : List ℕ) (at m i : ℕ) : Type 0 where
+half : (m i : ℕ) → m / 2 ^ i / 2 ≡ m / 2 ^ (i + 1)
+half m i = shr-shr m i 1
+
+pub record Turning (p₀ : List ℕ) (map : ℕ) (p : List ℕ) (at i : ℕ) : Type 0 where
   pub below : i ≤ 22
   pub long : length p ≡ length p₀
-  pub is : take at p ++ turned (drop i call_fields) i m (drop at p) ≡ take 4 p₀ ++ turned call_fields 0 map (drop 4 p₀)
-  pub place : at + size_of (drop i call_fields) m ≡ 4 + size_of call_fields map
+  pub is : take at p ++ turned (drop i call_fields) i (map / 2 ^ i) (drop at p) ≡ take 4 p₀ ++ turned call_fields 0 map (drop 4 p₀)
+  pub place : at + size_of (drop i call_fields) (map / 2 ^ i) ≡ 4 + size_of call_fields map
   pub room : 4 + size_of call_fields map ≤ length p₀
 
-pub turn_starts : (p : List ℕ) (map : ℕ) → 4 + size_of call_fields map ≤ length p → Turning p map p 4 map 0
-turn_starts p map h = record { below = omega arith; long = refl; is = refl; place = refl; room = h }
+pub turn_starts : (p : List ℕ) (map : ℕ) → 4 + size_of call_fields map ≤ length p → Turning p map p 4 0
+turn_starts p map h = let one : map / 1 ≡ map = omega arith in record { below = omega arith; long = refl; is = rw one; place = rw one; room = h }
 
-module _ {p₀ : List ℕ} {map : ℕ} {p : List ℕ} {at m i : ℕ} (f : Turning p₀ map p at m i) where
-  pub turn_room : i < 22 → m % 2 ≡ 1 → at + bytes_at i ≤ length p
-  turn_room h b = omega (arith, f.place, f.room, f.long, size_stands i h m b)
+module _ {p₀ : List ℕ} {map : ℕ} {p : List ℕ} {at i : ℕ} (f : Turning p₀ map p at i) where
+  pub turn_room : i < 22 → bit i map ≡ true → at + bytes_at i ≤ length p
+  turn_room h b = omega (arith, f.place, f.room, f.long, size_stands i h (map / 2 ^ i) (eqb-true (map / 2 ^ i % 2) 1 b))
 
-  pub turn_turn : i < 22 → m % 2 ≡ 1 → (q : List ℕ)
+  pub turn_turn : i < 22 → bit i map ≡ true → (q : List ℕ)
       → q ≡ take at p ++ (turned_field i (bytes_at i) (drop at p) ++ drop (at + bytes_at i) p) → (next : ℕ)
       → next ≡ at + bytes_at i
-      → Turning p₀ map q next (m / 2) (i + 1)
+      → Turning p₀ map q next (i + 1)
   turn_turn h b q e next en =
+      let m = map / 2 ^ i in
       let w = bytes_at i in
+      let o : m % 2 ≡ 1 = eqb-true (m % 2) 1 b in
       let room : at + w ≤ length p = turn_room h b in
       let here = turned_field i w (drop at p) in
       let after : length (drop at p) ≡ length p - at = length-drop at p in
@@ -126,50 +132,23 @@ module _ {p₀ : List ℕ} {map : ℕ} {p : List ℕ} {at m i : ℕ} (f : Turnin
         below = omega arith;
         long = rw split (length-append (take at p ++ here) (drop (at + w) p) ∙ omega (arith, head, en, length-drop (at + w) p, f.long));
         is =
-            rw (first, last, append_assoc (take at p) here (turned (drop (i + 1) call_fields) (i + 1) (m / 2) (drop (at + w) p)), ← drop-drop w at p)
-            (ap (λ (l : List ℕ). take at p ++ l) (sym (turned_stands i h m (drop at p) b)) ∙ f.is);
-        place = omega (arith, f.place, en, size_stands i h m b);
+            rw (← half map i, first, last, append_assoc (take at p) here (turned (drop (i + 1) call_fields) (i + 1) (m / 2) (drop (at + w) p)), ← drop-drop w at p)
+            (ap (λ (l : List ℕ). take at p ++ l) (sym (turned_stands i h m (drop at p) o)) ∙ f.is);
+        place = rw (← half map i) (omega (arith, f.place, en, size_stands i h m o));
         room = f.room;
       }
 
-  pub turn_skips : i < 22 → (m % 2 ≡ 1 → ⊥) → Turning p₀ map p at (m / 2) (i + 1)
+  pub turn_skips : i < 22 → bit i map ≡ false → Turning p₀ map p at (i + 1)
   turn_skips h b =
+      let m = map / 2 ^ i in
+      let o : m % 2 ≡ 1 → ⊥ = eqb-false (m % 2) 1 b in
       record {
         below = omega arith;
         long = f.long;
-        is = ap (λ (l : List ℕ). take at p ++ l) (sym (turned_skips i h m (drop at p) b)) ∙ f.is;
-        place = omega (arith, f.place, size_skips i h m b);
+        is = rw (← half map i) (ap (λ (l : List ℕ). take at p ++ l) (sym (turned_skips i h m (drop at p) o)) ∙ f.is);
+        place = rw (← half map i) (omega (arith, f.place, size_skips i h m o));
         room = f.room;
       }
 
   pub turn_done : 22 ≤ i → p ≡ take 4 p₀ ++ turned call_fields 0 map (drop 4 p₀)
-  turn_done h = sym (rw (turned_none i m (drop at p) h) (take-append-drop at p)) ∙ f.is
-
--- ---- `copied`
-
-pub record Copying (s : List ℕ) (at size : ℕ) (r : List ℕ) (i : ℕ) : Type 0 where
-  pub below : i ≤ size
-  pub long : length r ≡ 86
-  pub fits : size ≤ 86
-  pub room : at + size ≤ length s
-  pub is : take i r ≡ take i (drop at s)
-
-pub copy_starts : (s : List ℕ) (at size : ℕ) (r : List ℕ) → length r ≡ 86 → size ≤ 86 → at + size ≤ length s → Copying s at size r 0
-copy_starts s at size r l f h = record { below = omega arith; long = l; fits = f; room = h; is = refl }
-
-module _ {s : List ℕ} {at size : ℕ} {r : List ℕ} {i : ℕ} (f : Copying s at size r i) where
-  pub copy_turn : i < size → Copying s at size (set r i (get_or s (at + i) 0)) (i + 1)
-  copy_turn h =
-      let x = get_or s (at + i) 0 in
-      let more : take (suc i) (drop at s) ≡ take i (drop at s) ++ (x ∷ []) =
-      rw (take-suc (drop at s) i 0 (simp length-drop (omega (arith, f.room))), get_or-drop at s i 0) in
-      record {
-        below = omega arith;
-        long = simp length-set f.long;
-        fits = f.fits;
-        room = f.room;
-        is = rw (add-one i, take-suc-set r i x (omega (arith, f.long, f.fits)), f.is, more);
-      }
-
-  pub copy_done : size ≤ i → (take size r ≡ take size (drop at s)) × (length r ≡ 86)
-  copy_done h = let e : i ≡ size = omega (arith, f.below) in (rw e at f.is, f.long)
+  turn_done h = sym (rw (turned_none i (map / 2 ^ i) (drop at p) h) (take-append-drop at p)) ∙ f.is

@@ -2,27 +2,30 @@
 use mathlib.Core.Path.{◌≡◌, refl, sym, ap, subst, ◌∙◌}
 use mathlib.Core.Bool.{Bool, true, false, cond, ◌&&◌}
 use mathlib.Core.List.{List, ◌++◌}
-use Prim.Native.Nat.{ℕ, ◌+◌, ◌-◌, ◌*◌, ◌/◌, ◌%◌, ◌<◌, ◌≤◌, ◌^◌}
+use Prim.Native.Nat.{ℕ, ◌+◌, ◌-◌, ◌/◌, ◌%◌, ◌<◌, ◌≤◌, ◌^◌}
 use native.Mathlib.Omega.{arith}
-use borrow.Author.Tests.{le-leb, lt-leb, eq-eqb, ne_eqb, eqb-true, eqb-false, ltb-true}
+use borrow.Author.Tests.{le-leb, leb-true, eq-eqb, eqb-true, ltb-true}
 use lib.Dec.{T, eqb}
 use lib.ListN.{length, take, drop, get_or, length-append, length-drop}
-use lib.Seq.{drop-drop, drop_at, length-take-le}
-use Rattle.fields.specs.Bytes.{number_at, bytes_of}
+use lib.Seq.{drop-drop, take_at, drop_at, length-take-le}
+use Rattle.fields.specs.Bytes.{number_at, bytes_of, has_bytes}
 use Rattle.fields.specs.Fields.{stands, bit, named, size_of, values_at}
 use Rattle.fields.specs.Numbers.{floats_of}
 use Rattle.fields.proofs.NumberLaw.{bytes_long, number_back, drop_bytes}
-use Rattle.fields.proofs.FieldLaw.{rest_is}
 use Rattle.fields.proofs.Window.{same_values}
 use Rattle.records.specs.declared.call.Call.{Call}
 use Rattle.records.specs.declared.call.ReadCall.{ReadCall}
-use Rattle.records.specs.declared.call.ReadCall.TheVariants.{Read, Refused}
+use Rattle.std.specs.Prelude.{Result, Ok, Err}
+use Rattle.std.specs.Result.{result_map_both}
+use Rattle.std.proofs.lemmas.Bool.{not-true}
+use Rattle.refusals.specs.declared.Refusal.{Refusal}
+use Rattle.refusals.specs.declared.Refusal.TheVariants as refusal
 use Rattle.records.specs.Call.{call_fields, complete, unknown, regime_of, call_at, read_call}
 use Rattle.records.proofs.CallLaw.{fields_long}
 use Rattle.editions.specs.declared.Edition.{Edition}
 use Rattle.editions.specs.declared.Edition.TheVariants.{First, Second}
 use Rattle.editions.specs.Edition.{mark, is_of, fields_of, flips_standing, read_as}
-use Rattle.editions.specs.Code.Steps.{turned, mark_of}
+use Rattle.editions.specs.Code.Steps.{turned}
 use Rattle.editions.proofs.FlipLaw.{call_wide, values_turned, turned_long}
 
 -- ---- the map
@@ -43,75 +46,54 @@ module _ (m : ℕ) (h : m < 2 ^ 22) where
   pub without : mark + m - mark ≡ m
   without = omega arith
 
--- what the code takes for the fields' map
-pub fields_are : (map b m : ℕ) → b ≡ map / 2 ^ 22 % 2 → m ≡ map - 2 ^ 22 * b → fields_of map ≡ m
-fields_are map b m eb em = go (eqb (map / 2 ^ 22 % 2) 1) refl
-  where
-    go : (t : Bool) → eqb (map / 2 ^ 22 % 2) 1 ≡ t → cond t (map - 2 ^ 22) map ≡ m
-    go true e = omega (arith, eqb-true (map / 2 ^ 22 % 2) 1 e)
-    go false e =
-        let n : map / 2 ^ 22 % 2 ≡ 1 → ⊥ = eqb-false (map / 2 ^ 22 % 2) 1 e in
-        let z : map / 2 ^ 22 % 2 ≡ 0 = omega arith in
-        omega arith
-
-pub of_edition : (e : Edition) (map b : ℕ) → b ≡ map / 2 ^ 22 % 2 → b ≡ mark_of e → is_of e map ≡ true
-of_edition First map b eb em = rw (ne_eqb (map / 2 ^ 22 % 2) 1 (λ (q : map / 2 ^ 22 % 2 ≡ 1). omega arith))
-of_edition Second map b eb em = eq-eqb (map / 2 ^ 22 % 2) 1 (omega arith)
-
-pub of_other : (e : Edition) (map b : ℕ) → b ≡ map / 2 ^ 22 % 2 → (b ≡ mark_of e → ⊥) → is_of e map ≡ false
-of_other First map b eb em = rw (eq-eqb (map / 2 ^ 22 % 2) 1 (let n : map / 2 ^ 22 % 2 ≡ 0 → ⊥ = λ (q : map / 2 ^ 22 % 2 ≡ 0). em (eb ∙ q) in omega arith))
-of_other Second map b eb em = ne_eqb (map / 2 ^ 22 % 2) 1 (λ (q : map / 2 ^ 22 % 2 ≡ 1). em (eb ∙ q))
-
 -- ---- outcomes before the fields
 
-module _ (e : Edition) (s : List ℕ) (at : ℕ) where
-  pub cut : length s < at + 4 → Refused 5 ≡ read_as e s at
+pub cut : (e : Edition) (s : List ℕ) (at : ℕ) → has_bytes s at 4 ≡ false → Err refusal.TooFewBytes ≡ read_as e s at
+unfolding read_as
+cut e s at h = rw h
+
+-- map is what was read as the map, in t, and m what is left of it without bit 22
+module _ (s : List ℕ) (at : ℕ) (h : has_bytes s at 4 ≡ true) (t : List ℕ) (et : t ≡ drop at s) (map : ℕ) (em : map ≡ number_at 4 t) (m : ℕ) (ef : m ≡ fields_of map) where
+  is_map : number_at 4 (drop at s) ≡ map
+  is_map = ap (number_at 4) (sym et) ∙ sym em
+
+  pub incomplete : (e : Edition) → complete m ≡ false → Err refusal.UnknownMap ≡ read_as e s at
   unfolding read_as
-  cut h = rw (lt-leb (at + 4) (length s) h)
+  incomplete e q = rw (h, is_map, ← ef, q)
 
-  module _ (h : at + 4 ≤ length s) (map : ℕ) (em : map ≡ number_at 4 (take (length s - at) (drop at s))) (b m : ℕ)
-      (eb : b ≡ map / 2 ^ 22 % 2) (ef : m ≡ map - 2 ^ 22 * b) where
-    pub is_map : number_at 4 (drop at s) ≡ map
-    is_map = ap (number_at 4) (sym (rest_is s at)) ∙ sym em
-
-    pub incomplete : (c : Bool) → c ≡ complete m → c ≡ false → Refused 6 ≡ read_as e s at
+  module _ (q : complete m ≡ true) where
+    pub other_edition : (e : Edition) → is_of e map ≡ false → Err refusal.OtherEdition ≡ read_as e s at
     unfolding read_as
-    incomplete c ec q = rw (le-leb (at + 4) (length s) h, is_map, fields_are map b m eb ef, ← ec, q)
+    other_edition e o = rw (h, is_map, ← ef, q, o)
 
-    module _ (c : Bool) (ec : c ≡ complete m) (q : c ≡ true) where
-      pub already : (w : ℕ) → w ≡ mark_of e → (b ≡ w → ⊥) → Refused 15 ≡ read_as e s at
-      unfolding read_as
-      already w ew n =
-          rw (le-leb (at + 4) (length s) h, is_map, fields_are map b m eb ef, ← ec, q, of_other e map b eb (λ (k : b ≡ mark_of e). n (k ∙ sym ew)))
+    -- the first edition is read by the call reader
+    pub first_is : is_of First map ≡ true → read_call s at ≡ read_as First s at
+    unfolding read_as read_call
+    first_is o =
+        let unmarked : bit 22 map ≡ false = not-true (bit 22 map) o in
+        let same : m ≡ map = ef ∙ rw unmarked in
+        let q' : complete map ≡ true = rw same at q in
+        rw (is_map, ← ef, same, h, q', o)
 
--- the first edition is read by the call reader
-module _ (s : List ℕ) (at : ℕ) (h : at + 4 ≤ length s) (map : ℕ) (em : map ≡ number_at 4 (take (length s - at) (drop at s)))
-    (b m : ℕ) (eb : b ≡ map / 2 ^ 22 % 2) (ef : m ≡ map - 2 ^ 22 * b) where
-  pub first_is : (e : Edition) → b ≡ mark_of e → b ≡ 0 → complete m ≡ true → read_call s at ≡ read_as e s at
-  unfolding read_as read_call
-  first_is First ew z q =
-      let same : map ≡ m = omega arith in
-      rw (is_map First s at h map em b m eb ef, fields_are map b m eb ef, of_edition First map b eb ew, same, q)
-  first_is Second ew z q = absurd (omega arith)
-
-  pub second_map : (e : Edition) → b ≡ mark_of e → (b ≡ 0 → ⊥) → (number_at 4 (drop at s) ≡ mark + m) × (e ≡ Second)
-  second_map First ew z = absurd (z ew)
-  second_map Second ew z = (is_map Second s at h map em b m eb ef ∙ omega arith, refl)
+    pub second_map : is_of Second map ≡ true → number_at 4 (drop at s) ≡ mark + m
+    second_map o =
+        let stood : map / 2 ^ 22 % 2 ≡ 1 = eqb-true (map / 2 ^ 22 % 2) 1 o in
+        let left : m ≡ map - 2 ^ 22 = ef ∙ rw o in
+        is_map ∙ omega arith
 
 -- ---- the second edition's fields
 
 -- a reader's answer with another place
-abbrev pub placed : ℕ → ReadCall → ReadCall
-placed n (Refused r) = Refused r
-placed n (Read c k) = Read c n
+abbrev pub placed : ℕ → Result ReadCall Refusal → Result ReadCall Refusal
+placed n a = result_map_both (λ r. record { call = r.call; next = n }) (λ e. e) a
 
-module _ (s : List ℕ) (at m : ℕ) (h : at + 4 ≤ length s) (e : number_at 4 (drop at s) ≡ mark + m) (q : complete m ≡ true) where
-  pub short : length s < at + (4 + size_of call_fields m) → Refused 5 ≡ read_as Second s at
+module _ (s : List ℕ) (at m : ℕ) (h : has_bytes s at 4 ≡ true) (e : number_at 4 (drop at s) ≡ mark + m) (q : complete m ≡ true) where
+  pub short : has_bytes s at (4 + size_of call_fields m) ≡ false → Err refusal.TooFewBytes ≡ read_as Second s at
   unfolding read_as
-  short k = rw (le-leb (at + 4) (length s) h, e, marked m (below_mark m q), without m (below_mark m q), q, lt-leb (at + (4 + size_of call_fields m)) (length s) k)
+  short k = rw (h, e, marked m (below_mark m q), without m (below_mark m q), q, k)
 
   -- p begins with the record, and the code turns it into t
-  module _ (l : at + (4 + size_of call_fields m) ≤ length s) (p : List ℕ) (alike : take (4 + size_of call_fields m) p ≡ take (4 + size_of call_fields m) (drop at s))
+  module _ (l : has_bytes s at (4 + size_of call_fields m) ≡ true) (p : List ℕ) (alike : take (4 + size_of call_fields m) p ≡ take (4 + size_of call_fields m) (drop at s))
       (room : 4 + size_of call_fields m ≤ length p) where
     abbrev Turned : List ℕ
     Turned = bytes_of 4 m ++ turned call_fields 0 m (drop 4 p)
@@ -134,7 +116,8 @@ module _ (s : List ℕ) (at m : ℕ) (h : at + 4 ≤ length s) (e : number_at 4 
         length-append (bytes_of 4 m) (turned call_fields 0 m (drop 4 p))
         ∙ omega (arith, bytes_long 4 m, turned_long call_fields 0 m (drop 4 p) call_wide rest_room, length-drop 4 p)
 
-    outcome : (u : Bool) (c : Call) (n k : ℕ) → placed n (cond u (Refused 7) (Read c k)) ≡ cond u (Refused 7) (Read c n)
+    outcome : (u : Bool) (c : Call) (n k : ℕ)
+        → placed n (cond u (Err refusal.UnknownKind) (Ok (record { call = c; next = k }))) ≡ cond u (Err refusal.UnknownKind) (Ok (record { call = c; next = n }))
     outcome true c n k = refl
     outcome false c n k = refl
 
@@ -147,26 +130,42 @@ module _ (s : List ℕ) (at m : ℕ) (h : at + 4 ≤ length s) (e : number_at 4 
           le-leb (0 + 4) (length Turned) (omega (arith, long_is)),
           le-leb (0 + (4 + size_of call_fields m)) (length Turned) (omega (arith, long_is)),
           values_back,
-          le-leb (at + 4) (length s) h,
+          h,
           e,
           marked m (below_mark m q),
           without m (below_mark m q),
           q,
-          le-leb (at + (4 + size_of call_fields m)) (length s) l,
+          l,
         )
         (outcome (unknown (get_or vs 0 0) (get_or vs 1 0)) (call_at (get_or vs 0 0) (regime_of (get_or vs 1 0)) m (floats_of (drop 2 vs)))
         (at + (4 + size_of call_fields m)) (0 + (4 + size_of call_fields m)))
 
--- `read_second`: n is the fields' byte count, p the copy, p₁ and p₂ what turning and writing the map make of it, a the reader's answer
-pub second_answer : (s : List ℕ) (at m : ℕ) → at + 4 ≤ length s → number_at 4 (drop at s) ≡ mark + m → complete m ≡ true → (n : ℕ) → n ≡ size_of call_fields m
-    → at + (4 + n) ≤ length s → (p p₁ p₂ : List ℕ) → take (4 + n) p ≡ take (4 + n) (drop at s) → 4 + n ≤ length p
-    → p₁ ≡ take 4 p ++ turned call_fields 0 m (drop 4 p) → p₂ ≡ bytes_of 4 m ++ drop 4 p₁ → (a : ReadCall)
-    → a ≡ read_call p₂ 0 → placed (at + (4 + n)) a ≡ read_as Second s at
-second_answer s at m h e q n en l p p₁ p₂ alike room e₁ e₂ a ea =
-    let l' : at + (4 + size_of call_fields m) ≤ length s = rw en at l in
-    let alike' : take (4 + size_of call_fields m) p ≡ take (4 + size_of call_fields m) (drop at s) = rw en at alike in
-    let room' : 4 + size_of call_fields m ≤ length p = rw en at room in
-    let front : length (take 4 p) ≡ 4 = length-take-le 4 p (omega arith) in
-    let turned_is : p₂ ≡ bytes_of 4 m ++ turned call_fields 0 m (drop 4 p) =
-    e₂ ∙ rw e₁ (ap (λ (x : List ℕ). bytes_of 4 m ++ x) (drop_at (take 4 p) (turned call_fields 0 m (drop 4 p)) 4 front)) in
-    rw (en, ea, turned_is) (second_is s at m h e q l' p alike' room')
+-- the first bytes of r, with other bytes behind them
+pub copied : (k : ℕ) (r x d : List ℕ) → k ≤ length r → x ≡ take k r → (take k (x ++ d) ≡ take k r) × (k ≤ length (x ++ d))
+copied k r x d h e =
+    let l : length x ≡ k = rw e (length-take-le k r h) in
+    (take_at x d k l ∙ e, omega (arith, l, length-append x d))
+
+-- `read_second`: n is the fields' byte count, r has the record, p₁ and p₂ are what turning and writing the map make of its copy
+module _ (s : List ℕ) (at m : ℕ) (h : has_bytes s at 4 ≡ true) (e : number_at 4 (drop at s) ≡ mark + m) (q : complete m ≡ true) (n : ℕ) (en : n ≡ size_of call_fields m)
+    (l : has_bytes s at (4 + n) ≡ true) (r : List ℕ) (er : r ≡ drop at s) where
+  pub room : 4 + n ≤ length r
+  room = rw (er, length-drop at s) (omega (arith, leb-true _ _ l))
+
+  module _ (p p₁ p₂ : List ℕ) (alike : take (4 + n) p ≡ take (4 + n) r) (long : 4 + n ≤ length p) (e₁ : p₁ ≡ take 4 p ++ turned call_fields 0 m (drop 4 p))
+      (e₂ : p₂ ≡ bytes_of 4 m ++ drop 4 p₁) where
+    answer_is : (a : Result ReadCall Refusal) → a ≡ read_call p₂ 0 → placed (at + (4 + n)) a ≡ read_as Second s at
+    answer_is a ea =
+        let l' : has_bytes s at (4 + size_of call_fields m) ≡ true = rw en at l in
+        let alike' : take (4 + size_of call_fields m) p ≡ take (4 + size_of call_fields m) (drop at s) = rw (en, er) at alike in
+        let long' : 4 + size_of call_fields m ≤ length p = rw en at long in
+        let front : length (take 4 p) ≡ 4 = length-take-le 4 p (omega arith) in
+        let turned_is : p₂ ≡ bytes_of 4 m ++ turned call_fields 0 m (drop 4 p) =
+        e₂ ∙ rw e₁ (ap (λ (x : List ℕ). bytes_of 4 m ++ x) (drop_at (take 4 p) (turned call_fields 0 m (drop 4 p)) 4 front)) in
+        rw (en, ea, turned_is) (second_is s at m h e q l' p alike' long')
+
+    pub read_fails : (d : Refusal) → Err d ≡ read_call p₂ 0 → Err d ≡ read_as Second s at
+    read_fails d ea = answer_is (Err d) ea
+
+    pub reads : (c : ReadCall) → Ok c ≡ read_call p₂ 0 → Ok (record { call = c.call; next = at + (4 + n) }) ≡ read_as Second s at
+    reads c ea = answer_is (Ok c) ea

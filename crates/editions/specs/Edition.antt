@@ -1,20 +1,23 @@
 -- Document 02, K14: "a second edition of the call record has bit 22 standing with no field; in it altitude (bit 11), position z
 -- (bit 15) and velocity z (bit 18) have their sign bit flipped; a missing one still means a call value of +0". Definitions only.
-use Rattle.std.specs.Prelude.{Bool, cond, not, ◌&&◌, ◌||◌, List, [], ◌∷◌, ◌++◌, ℕ, suc, ◌+◌, ◌-◌, ◌/◌, ◌%◌, ◌^◌, eqb, drop, get_or}
+use Rattle.std.specs.Prelude.{Bool, cond, not, ◌&&◌, ◌||◌, List, [], ◌∷◌, ◌++◌, ℕ, suc, ◌+◌, ◌-◌, ◌/◌, ◌%◌, ◌^◌, eqb, drop, get_or, Option, Some, None, Result, Ok, Err}
+use Rattle.std.specs.Result.{result_map_both}
+use Rattle.refusals.specs.declared.Refusal.{Refusal}
+use Rattle.refusals.specs.declared.Refusal.TheVariants as refusal
 use Rattle.fields.specs.Bytes.{number_at, bytes_of, has_bytes}
 use Rattle.fields.specs.Fields.{stands, bit, size_of, values_at, body_of}
 use Rattle.fields.specs.Numbers.{floats_of}
 use Rattle.fields.specs.Writing.{answer_of, buffer_of}
-use Rattle.fields.specs.declared.Written.{Written}
-use Rattle.fields.specs.declared.Written.TheVariants as written
 use Rattle.records.specs.declared.call.Call.{Call}
 use Rattle.records.specs.declared.call.ReadCall.{ReadCall}
-use Rattle.records.specs.declared.call.ReadCall.TheVariants as read
 use Rattle.records.specs.Call.{call_fields, complete, unknown, regime_of, call_at, parts_of, values_of, map_of_parts, call_record}
 use Rattle.editions.specs.declared.Edition.{Edition}
 use Rattle.editions.specs.declared.Edition.TheVariants.{First, Second}
 use Rattle.editions.specs.declared.Converted.{Converted}
-use Rattle.editions.specs.declared.Converted.TheVariants.{Places, Refused}
+
+-- the edition of a number, if there is one
+abbrev pub edition_of : ℕ → Option Edition
+edition_of n = cond (eqb n 1) (Some First) (cond (eqb n 2) (Some Second) None)
 
 -- ---- what is flipped
 
@@ -60,7 +63,7 @@ call_values Second m vs = flips_standing 0 m vs
 
 -- A record read as one of an edition: 5 for a place past the end or a map cut short, 6, where only bits 23 to 31 are unnamed,
 -- 15 for a record of the other edition, 5 for fewer bytes than the map demands, 7.
-unfoldable pub read_as : Edition → List ℕ → ℕ → ReadCall
+unfoldable pub read_as : Edition → List ℕ → ℕ → Result ReadCall Refusal
 read_as e s at =
     let map = number_at 4 (drop at s) in
     let m = fields_of map in
@@ -68,12 +71,12 @@ read_as e s at =
     let values = call_values e m (values_at call_fields m (drop (at + 4) s)) in
     let kind = get_or values 0 0 in
     let regime = get_or values 1 0 in
-    cond (not (has_bytes s at 4)) (read.Refused 5)
-    (cond (not (complete m)) (read.Refused 6)
-    (cond (not (is_of e map)) (read.Refused 15)
-    (cond (not (has_bytes s at size)) (read.Refused 5)
-    (cond (unknown kind regime) (read.Refused 7)
-    (read.Read (call_at kind (regime_of regime) m (floats_of (drop 2 values))) (at + size))))))
+    cond (not (has_bytes s at 4)) (Err refusal.TooFewBytes)
+    (cond (not (complete m)) (Err refusal.UnknownMap)
+    (cond (not (is_of e map)) (Err refusal.OtherEdition)
+    (cond (not (has_bytes s at size)) (Err refusal.TooFewBytes)
+    (cond (unknown kind regime) (Err refusal.UnknownKind)
+    (Ok (record { call = call_at kind (regime_of regime) m (floats_of (drop 2 values)); next = at + size }))))))
 
 -- ---- writing
 
@@ -92,16 +95,15 @@ other First = Second
 other Second = First
 
 -- the place after the record that was read goes with the writer's answer
-abbrev pub places : ℕ → Written → Converted
-places next (written.Next n) = Places next n
-places next (written.Refused r) = Refused r
+abbrev pub places : ℕ → Result ℕ Refusal → Result Converted Refusal
+places next w = result_map_both (λ n. record { read = next; written = n }) (λ e. e) w
 
 -- the answer: the reader's refusal (15: the record is already of the wanted edition), or 8, or both places
-unfoldable pub answer : Edition → ReadCall → List ℕ → ℕ → Converted
-answer wanted (read.Refused r) out place = Refused r
-answer wanted (read.Read c next) out place = places next (answer_of out place (record_as wanted c))
+unfoldable pub answer : Edition → Result ReadCall Refusal → List ℕ → ℕ → Result Converted Refusal
+answer wanted (Err e) out place = Err e
+answer wanted (Ok r) out place = places r.next (answer_of out place (record_as wanted r.call))
 
 -- the second buffer afterwards: a refusal keeps every byte
-unfoldable pub buffer : Edition → ReadCall → List ℕ → ℕ → List ℕ
-buffer wanted (read.Refused r) out place = out
-buffer wanted (read.Read c next) out place = buffer_of out place (record_as wanted c)
+unfoldable pub buffer : Edition → Result ReadCall Refusal → List ℕ → ℕ → List ℕ
+buffer wanted (Err e) out place = out
+buffer wanted (Ok r) out place = buffer_of out place (record_as wanted r.call)

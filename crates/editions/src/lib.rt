@@ -6,7 +6,7 @@
 #![tactic(auto)]
 
 ghost use Rattle.std.specs.Prelude.{◌≡◌, true, ◌++◌, ◌≤◌, ◌<◌, ◌+◌, length, take, drop};
-ghost use Rattle.fields.specs.Bytes.{number_at, bytes_of};
+ghost use Rattle.fields.specs.Bytes.{number_at, bytes_of, has_bytes};
 ghost use Rattle.fields.specs.Fields.{size_of};
 ghost use Rattle.fields.specs.Writing.{answer_of, buffer_of};
 ghost use Rattle.records.specs.Call.{call_fields, complete};
@@ -14,51 +14,78 @@ ghost use Rattle.editions.specs.declared.Edition.TheVariants.{Second};
 ghost use Rattle.editions.specs.Edition as spec;
 ghost use Rattle.editions.specs.Code.Steps as step;
 
-use fields::Written;
-use fields::bytes::{read_number, write_number};
-use records::call::{Call, ReadCall, fields_size, is_complete, read_call};
+use fields::bytes::{read_word, write_number, write_word};
+use records::call::{Call, ReadCall, fields_size, is_complete, read_call, stands};
 use records::call_writer::write_call;
+use records::part::bytes_from;
+use refusals::Refusal;
 
-#[derive(Clone, Copy)]
+#[derive(Clone, Copy, PartialEq, Eq)]
 pub enum Edition {
     First,
     Second,
 }
 
-// What a conversion answers: the place after the record that was read and the place after the one that was written, or the
-// refusal's number.
+impl Edition {
+    pub fn from_number(n: u32) -> Option<Edition>
+        ensures { result ≡ spec.edition_of n }
+    {
+        match n {
+            1 => Some(Edition::First),
+            2 => Some(Edition::Second),
+            _ => None,
+        }
+    }
+
+    // Whether a map is one of this edition.
+    fn is_of(self, map: u64) -> bool
+        ensures { result ≡ spec.is_of self map }
+    {
+        match self {
+            Edition::First => !stands(map, MARK),
+            Edition::Second => stands(map, MARK),
+        }
+    }
+
+    fn other(self) -> Edition
+        ensures { result ≡ spec.other self }
+    {
+        match self {
+            Edition::First => Edition::Second,
+            Edition::Second => Edition::First,
+        }
+    }
+}
+
+// The place after the record that was read, and the place after the one that was written.
 #[derive(Clone, Copy)]
-pub enum Converted {
-    Places { read: usize, written: usize },
-    Refused(u8),
+pub struct Converted {
+    pub read: usize,
+    pub written: usize,
 }
 
 // "Bit 22 standing with no field".
-const MARK: u64 = 1 << 22;
+const MARK: u32 = 22;
 
-// The sign bit of an f32, and 2 to the count of its bits.
-const SIGN: u64 = 1 << 31;
+const MARKED: u64 = 1 << 22;
 
-const ALL: u64 = 1 << 32;
+// The sign bit of an f32.
+const SIGN: u32 = 1 << 31;
 
-// How many fields a call record has.
-const FIELDS: usize = 22;
+// How many fields a call record has, and how many bytes at most.
+const FIELDS: u32 = 22;
+
+const LONGEST: usize = 86;
 
 // Whether the field of a bit has down positive in the second edition: altitude, position z, velocity z.
-fn is_down(n: usize) -> bool
+fn is_down(n: u32) -> bool
     ensures { result ≡ spec.is_down n }
 {
-    if n == 11 {
-        return true;
-    }
-    if n == 15 {
-        return true;
-    }
-    n == 18
+    matches!(n, 11 | 15 | 18)
 }
 
 // The byte count of the field of a bit.
-fn bytes_at(n: usize) -> usize
+fn bytes_at(n: u32) -> usize
     requires { n < 22 }
     ensures { result ≡ step.bytes_at n }
 {
@@ -70,12 +97,12 @@ fn turn_number(part: &mut [u8])
     requires { 4 ≤ length part.old }
     ensures { part.new ≡ bytes_of 4 (spec.flip (number_at 4 part.old)) ++ drop 4 part.old }
 {
-    let number = read_number(part, 4);
-    write_number(part, 4, (number + SIGN) % ALL);
+    let number = read_word(part);
+    write_word(part, number.wrapping_add(SIGN));
 }
 
 // Turns a field that stands at a place, where it has down positive; the place after it.
-fn turn_field(part: &mut [u8], at: usize, n: usize) -> usize
+fn turn_field(part: &mut [u8], at: usize, n: u32) -> usize
     requires { (n < 22) × (at + step.bytes_at n ≤ length part.old) }
     ensures { (part.new ≡ take at part.old ++ (step.turned_field n (step.bytes_at n) (drop at part.old) ++ drop (at + step.bytes_at n) part.old)) × (result ≡ at + step.bytes_at n) }
 {
@@ -91,92 +118,59 @@ fn turn(part: &mut [u8], map: u64)
     requires { 4 + size_of call_fields map ≤ length part.old }
     ensures { part.new ≡ take 4 part.old ++ step.turned call_fields 0 map (drop 4 part.old) }
 {
-    let mut at: usize = 4;
-    let mut m = map;
-    let mut i: usize = 0;
-    while i < FIELDS {
-        let here = i;
-        let bit = m % 2;
-        i += 1;
-        m = m / 2;
-        if bit == 1 {
-            at = turn_field(part, at, here);
+    let mut at = 4;
+    for n in 0..FIELDS {
+        if stands(map, n) {
+            at = turn_field(part, at, n);
         }
     }
 }
 
 // ---- reading
 
-// The first bytes from a place on, in a buffer of their own: a record has at most 86.
-fn copied(s: &[u8], at: usize, size: usize) -> [u8; 86]
-    requires { (size ≤ 86) × (at + size ≤ length s.now) }
-    ensures { (take size result ≡ take size (drop at s.now)) × (length result ≡ 86) }
-{
-    let mut r = [0u8; 86];
-    let mut i: usize = 0;
-    while i < size {
-        r[i] = s[at + i];
-        i += 1;
-    }
-    r
-}
-
-// Reads a record of the second edition, map being its map without bit 22: its fields are turned, and the call reader reads them.
-fn read_second(s: &[u8], at: usize, map: u64) -> ReadCall
-    requires { (at + 4 ≤ length s.now) × (number_at 4 (drop at s.now) ≡ spec.mark + map) × (complete map ≡ true) }
+// Reads a record of the second edition, map being its map without bit 22: its fields are turned in a copy, and the call reader
+// reads them.
+fn read_second(s: &[u8], at: usize, map: u64) -> Result<ReadCall, Refusal>
+    requires { (has_bytes s.now at 4 ≡ true) × (number_at 4 (drop at s.now) ≡ spec.mark + map) × (complete map ≡ true) }
     ensures { result ≡ spec.read_as Second s.now at }
 {
     let size = 4 + fields_size(map);
-    if s.len() - at < size {
-        return ReadCall::Refused(5);
-    }
-    let mut plain = copied(s, at, size);
+    let record = bytes_from(s, at, size)?;
+    let mut plain = [0; LONGEST];
+    plain[..size].copy_from_slice(&record[..size]);
     turn(&mut plain, map);
     write_number(&mut plain, 4, map);
-    let read = read_call(&plain, 0);
-    match read {
-        ReadCall::Refused(r) => ReadCall::Refused(r),
-        ReadCall::Read { call, next } => ReadCall::Read {
-            call,
-            next: at + size,
-        },
-    }
+    let read = read_call(&plain, 0)?;
+    Ok(ReadCall {
+        call: read.call,
+        next: at + size,
+    })
 }
 
-// Whether bit 22 stands in an edition's map.
-fn mark_of(edition: Edition) -> u64
-    ensures { (result ≡ step.mark_of edition) × (result ≤ 1) }
+// A map without bit 22.
+fn fields_of(map: u64) -> u64
+    ensures { result ≡ spec.fields_of map }
 {
-    match edition {
-        Edition::First => 0,
-        Edition::Second => 1,
-    }
+    if stands(map, MARK) { map - MARKED } else { map }
 }
 
 // Reads a record of an edition.
-pub fn read_as(s: &[u8], at: usize, edition: Edition) -> ReadCall
+pub fn read_as(s: &[u8], at: usize, edition: Edition) -> Result<ReadCall, Refusal>
     ensures { result ≡ spec.read_as edition s.now at }
 {
-    if s.len() < at {
-        return ReadCall::Refused(5);
-    }
-    if s.len() - at < 4 {
-        return ReadCall::Refused(5);
-    }
-    let map = read_number(&s[at..], 4);
-    let mark = map / MARK % 2;
-    let fields = map - MARK * mark;
+    let start = bytes_from(s, at, 4)?;
+    let map = u64::from(read_word(start));
+    let fields = fields_of(map);
     if !is_complete(fields) {
-        return ReadCall::Refused(6);
+        return Err(Refusal::UnknownMap);
     }
-    let wanted = mark_of(edition);
-    if mark != wanted {
-        return ReadCall::Refused(15);
+    if !edition.is_of(map) {
+        return Err(Refusal::OtherEdition);
     }
-    if mark == 0 {
-        return read_call(s, at);
+    match edition {
+        Edition::First => read_call(s, at),
+        Edition::Second => read_second(s, at, fields),
     }
-    read_second(s, at, fields)
 }
 
 // ---- writing
@@ -186,27 +180,23 @@ fn turn_record(part: &mut [u8])
     requires { 4 + size_of call_fields (number_at 4 part.old) ≤ length part.old }
     ensures { part.new ≡ step.turned_record part.old }
 {
-    let map = read_number(part, 4);
+    let map = u64::from(read_word(part));
     turn(part, map);
-    write_number(part, 4, MARK + map);
+    write_number(part, 4, MARKED + map);
 }
 
 // Writes a call's record of the second edition.
-fn write_second(out: &mut [u8], at: usize, call: Call) -> Written
+fn write_second(out: &mut [u8], at: usize, call: Call) -> Result<usize, Refusal>
     ensures { (result ≡ answer_of out.old at (spec.record_as Second call)) × (out.new ≡ buffer_of out.old at (spec.record_as Second call)) }
 {
-    let answer = write_call(out, at, call);
-    match answer {
-        Written::Refused(r) => Written::Refused(r),
-        Written::Next(next) => {
-            turn_record(&mut out[at..]);
-            Written::Next(next)
-        }
-    }
+    let next = write_call(out, at, call)?;
+    turn_record(&mut out[at..]);
+    Ok(next)
 }
 
 // Writes a call's record of an edition.
-pub fn write_as(out: &mut [u8], at: usize, call: Call, edition: Edition) -> Written
+#[tactic(auto, unfolding(crate::specs::Edition::record_as))]
+pub fn write_as(out: &mut [u8], at: usize, call: Call, edition: Edition) -> Result<usize, Refusal>
     ensures { (result ≡ answer_of out.old at (spec.record_as edition call)) × (out.new ≡ buffer_of out.old at (spec.record_as edition call)) }
 {
     match edition {
@@ -217,38 +207,20 @@ pub fn write_as(out: &mut [u8], at: usize, call: Call, edition: Edition) -> Writ
 
 // ---- converting
 
-fn other(edition: Edition) -> Edition
-    ensures { result ≡ spec.other edition }
-{
-    match edition {
-        Edition::First => Edition::Second,
-        Edition::Second => Edition::First,
-    }
-}
-
-fn places_of(next: usize, answer: Written) -> Converted
-    ensures { result ≡ spec.places next answer }
-{
-    match answer {
-        Written::Refused(r) => Converted::Refused(r),
-        Written::Next(written) => Converted::Places {
-            read: next,
-            written,
-        },
-    }
-}
-
 // Converts the record at a place to the wanted edition, and writes it at a place of a second buffer.
-pub fn convert(s: &[u8], at: usize, wanted: Edition, out: &mut [u8], place: usize) -> Converted
+pub fn convert(
+    s: &[u8],
+    at: usize,
+    wanted: Edition,
+    out: &mut [u8],
+    place: usize,
+) -> Result<Converted, Refusal>
     ensures { (result ≡ spec.answer wanted (spec.read_as (spec.other wanted) s.now at) out.old place) × (out.new ≡ spec.buffer wanted (spec.read_as (spec.other wanted) s.now at) out.old place) }
 {
-    let from = other(wanted);
-    let read = read_as(s, at, from);
-    match read {
-        ReadCall::Refused(r) => Converted::Refused(r),
-        ReadCall::Read { call, next } => {
-            let answer = write_as(out, place, call, wanted);
-            places_of(next, answer)
-        }
-    }
+    let read = read_as(s, at, wanted.other())?;
+    let written = write_as(out, place, read.call, wanted)?;
+    Ok(Converted {
+        read: read.next,
+        written,
+    })
 }

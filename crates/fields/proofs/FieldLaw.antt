@@ -1,21 +1,22 @@
 -- Laws of the loops over fields that are numbers. Assumes nothing.
 use mathlib.Core.Path.{◌≡◌, refl, sym, ap, ap₂, ◌∙◌}
 use mathlib.Core.Bool.{Bool, true, false, cond}
-use mathlib.Core.List.{List, [], ◌∷◌, ◌++◌, append_assoc, append-nil}
+use mathlib.Core.List.{List, [], ◌∷◌, ◌++◌, append_assoc, append-nil, map, map-id}
 use Prim.Native.Nat.{ℕ, zero, suc, ◌+◌, ◌-◌, ◌*◌, ◌/◌, ◌%◌, ◌<◌, ◌≤◌, ◌^◌}
 use native.Mathlib.Omega.{arith}
 use native.Mathlib.Numerals.{add-one}
-use native.Mathlib.Nat.{sub-zero, add-zero, mod-lt, mod-eq_of_lt, pow-suc, suc-add, lt_of_lt_of_le}
+use native.Mathlib.Nat.{add-zero, mod-lt, mod-eq_of_lt, pow-suc, suc-add, lt_of_lt_of_le}
 use lib.Arith.{mod-mul}
 use lib.Count as all
 use lib.Pow.{pow_mono, pow_pos}
 use borrow.Rule.Slice.PartMut.{put_mid, Post-is}
 use borrow.Author.Tests.{eq-eqb, ne_eqb, eqb-true, eqb-false}
 use lib.Dec.{eqb, lit<}
-use lib.ListN.{length, set, drop, take, get_or, replicate, length-replicate, get_or-replicate, length-append, length-drop, length-set, drop_of_length-le, take-append-drop}
+use lib.ListN.{length, set, drop, take, get_or, length-append, length-drop, length-set, drop_of_length-le, take-append-drop}
+use Rattle.std.proofs.lemmas.List.{take_rest}
 use lib.Seq.{drop-length, take_all, take_at, drop_at, length-take-le, drop-cons, drop-drop, take-suc, take-suc-set, drop-set-lt}
 use Rattle.fields.specs.Bytes.{number_at, bytes_of, put_at}
-use Rattle.fields.specs.Fields.{Field, ones, size_of, number_fields, values_at, is_written, bit_of, map_of, body_of}
+use Rattle.fields.specs.Fields.{Field, ones, size_of, number_fields, values_at, values_as, is_written, bit_of, map_of, body_of}
 use Rattle.fields.proofs.NumberLaw.{bytes_long}
 
 -- ---- how many bits stand
@@ -89,7 +90,7 @@ ones_all (suc n) m h = all.ones_step m ∙ ap (λ (x : ℕ). m % 2 + x) (ones_al
 
 -- the rest of a slice, as a part of it is given
 pub rest_is : {A : Type 0} (s : List A) (at : ℕ) → take (length s - at) (drop at s) ≡ drop at s
-rest_is s at = take_all (length s - at) (drop at s) (simp length-drop (omega arith))
+rest_is s at = take_rest s at
 
 -- the rest of a slice, lent and come back as p
 pub rest_back : (out p : List ℕ) (at : ℕ) → at ≤ length out → put_mid at (length out - at) out p ≡ take at out ++ p
@@ -97,92 +98,116 @@ rest_back out p at h = rw (Post-is at (length out) out h, drop-length out, appen
 
 -- ---- reading
 
-values_none : (m : ℕ) (s : List ℕ) → values_at (number_fields []) m s ≡ []
-unfolding values_at number_fields
-values_none m s = refl
+-- what a list has at a place
+item : {A : Type 0} (v : List A) (i : ℕ) → i < length v → A
+item [] i h = absurd (omega arith)
+item (x ∷ xs) i h = x
 
-module _ (v : List ℕ) (m : ℕ) (s : List ℕ) (i : ℕ) (h : i < length v) where
-  -- a turn that reads
-  reads : m % 2 ≡ 1
-      → take (i + 1) (set v i (number_at 4 s)) ++ values_at (number_fields (drop (i + 1) (set v i (number_at 4 s)))) (m / 2) (drop 4 s)
-      ≡ take i v ++ values_at (number_fields (drop i v)) m s
-  unfolding values_at number_fields
-  reads e =
-      rw
-      (add-one i, drop-set-lt (suc i) v i (number_at 4 s) (omega arith), take-suc-set v i (number_at 4 s) h, drop-cons v i 0 h, eq-eqb _ _ e)
-      (append_assoc (take i v) _ _)
+module _ {A : Type 0} (of : ℕ → A) where
+  values_none : (m : ℕ) (s : List ℕ) → values_as of [] m s ≡ []
+  unfolding values_as
+  values_none m s = refl
 
-  -- a turn that keeps
-  keeps : (m % 2 ≡ 1 → ⊥) → take (i + 1) v ++ values_at (number_fields (drop (i + 1) v)) (m / 2) s ≡ take i v ++ values_at (number_fields (drop i v)) m s
-  unfolding values_at number_fields
-  keeps e = rw (add-one i, take-suc v i 0 h, drop-cons v i 0 h, ne_eqb _ _ e) (append_assoc (take i v) _ _)
+  module _ (v : List A) (m : ℕ) (s : List ℕ) (i : ℕ) (h : i < length v) where
+    -- a turn that reads
+    reads : m % 2 ≡ 1
+        → take (i + 1) (set v i (of (number_at 4 s))) ++ values_as of (drop (i + 1) (set v i (of (number_at 4 s)))) (m / 2) (drop 4 s)
+        ≡ take i v ++ values_as of (drop i v) m s
+    unfolding values_as
+    reads e =
+        let d = item v i h in
+        rw
+        (add-one i, drop-set-lt (suc i) v i (of (number_at 4 s)) (omega arith), take-suc-set v i (of (number_at 4 s)) h, drop-cons v i d h, eq-eqb _ _ e)
+        (append_assoc (take i v) _ _)
 
--- where no bit stands, each value is what a missing one means
-pub values_of_0 : (ds s : List ℕ) → values_at (number_fields ds) 0 s ≡ ds
-unfolding values_at number_fields
-values_of_0 [] s = refl
-values_of_0 (d ∷ ds) s = ap (λ (l : List ℕ). d ∷ l) (values_of_0 ds s)
+    -- a turn that keeps
+    keeps : (m % 2 ≡ 1 → ⊥) → take (i + 1) v ++ values_as of (drop (i + 1) v) (m / 2) s ≡ take i v ++ values_as of (drop i v) m s
+    unfolding values_as
+    keeps e =
+        let d = item v i h in
+        rw (add-one i, take-suc v i d h, drop-cons v i d h, ne_eqb _ _ e) (append_assoc (take i v) _ _)
 
--- where no bit stands above those of the first fields, the others' values are what missing ones mean
-pub values_front : (cs ds : List ℕ) (m : ℕ) (s : List ℕ) → m < 2 ^ length cs → values_at (number_fields (cs ++ ds)) m s ≡ values_at (number_fields cs) m s ++ ds
-unfolding values_at number_fields
-values_front [] ds m s h = rw (no_bit m h) (values_of_0 ds s)
-values_front (c ∷ cs) ds m s h = go (eqb (m % 2) 1) (λ (r : List ℕ). values_front cs ds (m / 2) r (half_below (length cs) m h))
+  -- where no bit stands, each stays
+  pub values_of_0 : (v : List A) (s : List ℕ) → values_as of v 0 s ≡ v
+  unfolding values_as
+  values_of_0 [] s = refl
+  values_of_0 (x ∷ xs) s = ap (λ (l : List A). x ∷ l) (values_of_0 xs s)
+
+  -- where no bit stands above the first ones, the others stay
+  pub values_front : (u v : List A) (m : ℕ) (s : List ℕ) → m < 2 ^ length u → values_as of (u ++ v) m s ≡ values_as of u m s ++ v
+  unfolding values_as
+  values_front [] v m s h = rw (no_bit m h) (values_of_0 v s)
+  values_front (x ∷ xs) v m s h = go (eqb (m % 2) 1) (λ (r : List ℕ). values_front xs v (m / 2) r (half_below (length xs) m h))
+    where
+      go : (b : Bool) → ((r : List ℕ) → values_as of (xs ++ v) (m / 2) r ≡ values_as of xs (m / 2) r ++ v)
+          → cond b (of (number_at 4 s) ∷ values_as of (xs ++ v) (m / 2) (drop 4 s)) (x ∷ values_as of (xs ++ v) (m / 2) s)
+          ≡ cond b (of (number_at 4 s) ∷ values_as of xs (m / 2) (drop 4 s)) (x ∷ values_as of xs (m / 2) s) ++ v
+      go true ih = ap (λ (l : List A). of (number_at 4 s) ∷ l) (ih (drop 4 s))
+      go false ih = ap (λ (l : List A). x ∷ l) (ih s)
+
+  pub read_none : (s : List ℕ) (v : List A) (from map : ℕ) → map ≡ 0 → (v ≡ values_as of v map (drop from s)) × (from ≡ from + 4 * ones (length v) map)
+  read_none s v from map z = (sym (rw z (values_of_0 v (drop from s))), rw (z, ones_of_0 (length v)) (omega arith))
+
+  -- what holds in each turn of `read_values`
+  pub record Reading (s : List ℕ) (from map : ℕ) (v₀ v : List A) (at m i : ℕ) : Type 0 where
+    pub below : i ≤ length v
+    pub long : length v ≡ length v₀
+    pub is : take i v ++ values_as of (drop i v) m (drop at s) ≡ values_as of v₀ map (drop from s)
+    pub place : at + 4 * ones (length v - i) m ≡ from + 4 * ones (length v₀) map
+    pub room : from + 4 * ones (length v₀) map ≤ length s
+
+  module _ {s : List ℕ} {from map : ℕ} {v₀ v : List A} {at m i : ℕ} (f : Reading s from map v₀ v at m i) where
+    pub read_room : i < length v → m % 2 ≡ 1 → at + 4 ≤ length s
+    read_room h b = omega (arith, f.place, f.room, ones_step m (length v) i h)
+
+    pub read_part : i < length v → m % 2 ≡ 1 → 4 ≤ length (take (length s - at) (drop at s))
+    read_part h b = rw (rest_is s at) (simp length-drop (omega (arith, read_room h b)))
+
+    pub read_turn : i < length v → m % 2 ≡ 1 → (x : ℕ) → x ≡ number_at 4 (take (length s - at) (drop at s))
+        → Reading s from map v₀ (set v i (of x)) (at + 4) (m / 2) (i + 1)
+    read_turn h b x e =
+        record {
+          below = simp length-set (omega arith);
+          long = simp length-set f.long;
+          is = rw (e, rest_is s at, ← drop-drop 4 at s) (reads v m (drop at s) i h b ∙ f.is);
+          place = simp length-set (omega (arith, f.place, ones_step m (length v) i h));
+          room = f.room;
+        }
+
+    pub read_keeps : i < length v → (m % 2 ≡ 1 → ⊥) → Reading s from map v₀ v at (m / 2) (i + 1)
+    read_keeps h b =
+        let z : m % 2 ≡ 0 = not_one (m % 2) b (mod-lt m (lit< tt)) in
+        record {
+          below = omega arith;
+          long = f.long;
+          is = keeps v m (drop at s) i h b ∙ f.is;
+          place = omega (arith, f.place, ones_step m (length v) i h);
+          room = f.room;
+        }
+
+    pub read_done : length v ≤ i → v ≡ values_as of v₀ map (drop from s)
+    read_done h = sym (simp (drop_of_length-le, take_all, append-nil, values_none) (refl)) ∙ f.is
+
+    pub read_place : length v ≤ i → at ≡ from + 4 * ones (length v₀) map
+    read_place h = omega (arith, f.place, no_ones m (length v) i h)
+
+-- ---- the values of numbers of a kind are made of those of the fields
+
+pub values_made : {A : Type 0} (of : ℕ → A) (ds : List ℕ) (m : ℕ) (s : List ℕ) → values_as of (map of ds) m s ≡ map of (values_at (number_fields ds) m s)
+unfolding values_as values_at number_fields
+values_made of [] m s = refl
+values_made of (d ∷ ds) m s = go (eqb (m % 2) 1) (λ (r : List ℕ). values_made of ds (m / 2) r)
   where
-    go : (b : Bool) → ((r : List ℕ) → values_at (number_fields (cs ++ ds)) (m / 2) r ≡ values_at (number_fields cs) (m / 2) r ++ ds)
-        → cond b (number_at 4 s ∷ values_at (number_fields (cs ++ ds)) (m / 2) (drop 4 s)) (c ∷ values_at (number_fields (cs ++ ds)) (m / 2) s)
-        ≡ cond b (number_at 4 s ∷ values_at (number_fields cs) (m / 2) (drop 4 s)) (c ∷ values_at (number_fields cs) (m / 2) s) ++ ds
-    go true ih = ap (λ (l : List ℕ). number_at 4 s ∷ l) (ih (drop 4 s))
-    go false ih = ap (λ (l : List ℕ). c ∷ l) (ih s)
+    go : (b : Bool) → ((r : List ℕ) → values_as of (map of ds) (m / 2) r ≡ map of (values_at (number_fields ds) (m / 2) r))
+        → cond b (of (number_at 4 s) ∷ values_as of (map of ds) (m / 2) (drop 4 s)) (of d ∷ values_as of (map of ds) (m / 2) s)
+        ≡ map of (cond b (number_at 4 s ∷ values_at (number_fields ds) (m / 2) (drop 4 s)) (d ∷ values_at (number_fields ds) (m / 2) s))
+    go true ih = ap (λ (l : List _). of (number_at 4 s) ∷ l) (ih (drop 4 s))
+    go false ih = ap (λ (l : List _). of d ∷ l) (ih s)
 
-pub read_none : (s v : List ℕ) (from map : ℕ) → map ≡ 0 → (v ≡ values_at (number_fields v) map (drop from s)) × (from ≡ from + 4 * ones (length v) map)
-read_none s v from map z = (sym (rw z (values_of_0 v (drop from s))), rw (z, ones_of_0 (length v)) (omega arith))
-
--- what holds in each turn of `read_values`
-pub record Reading (s : List ℕ) (from map : ℕ) (v₀ v : List ℕ) (at m i : ℕ) : Type 0 where
-  pub below : i ≤ length v
-  pub long : length v ≡ length v₀
-  pub is : take i v ++ values_at (number_fields (drop i v)) m (drop at s) ≡ values_at (number_fields v₀) map (drop from s)
-  pub place : at + 4 * ones (length v - i) m ≡ from + 4 * ones (length v₀) map
-  pub room : from + 4 * ones (length v₀) map ≤ length s
-
-pub read_starts : (s : List ℕ) (from map : ℕ) (v : List ℕ) → from + 4 * ones (length v) map ≤ length s → Reading s from map v v from map 0
-read_starts s from map v h = record { below = omega arith; long = refl; is = refl; place = rw (sub-zero (length v)); room = h }
-
-module _ {s : List ℕ} {from map : ℕ} {v₀ v : List ℕ} {at m i : ℕ} (f : Reading s from map v₀ v at m i) where
-  pub read_room : i < length v → m % 2 ≡ 1 → at + 4 ≤ length s
-  read_room h b = omega (arith, f.place, f.room, ones_step m (length v) i h)
-
-  pub read_part : i < length v → m % 2 ≡ 1 → 4 ≤ length (take (length s - at) (drop at s))
-  read_part h b = rw (rest_is s at) (simp length-drop (omega (arith, read_room h b)))
-
-  pub read_turn : i < length v → m % 2 ≡ 1 → (x : ℕ) → x ≡ number_at 4 (take (length s - at) (drop at s))
-      → Reading s from map v₀ (set v i x) (at + 4) (m / 2) (i + 1)
-  read_turn h b x e =
-      record {
-        below = simp length-set (omega arith);
-        long = simp length-set f.long;
-        is = rw (e, rest_is s at, ← drop-drop 4 at s) (reads v m (drop at s) i h b ∙ f.is);
-        place = simp length-set (omega (arith, f.place, ones_step m (length v) i h));
-        room = f.room;
-      }
-
-  pub read_keeps : i < length v → (m % 2 ≡ 1 → ⊥) → Reading s from map v₀ v at (m / 2) (i + 1)
-  read_keeps h b =
-      let z : m % 2 ≡ 0 = not_one (m % 2) b (mod-lt m (lit< tt)) in
-      record {
-        below = omega arith;
-        long = f.long;
-        is = keeps v m (drop at s) i h b ∙ f.is;
-        place = omega (arith, f.place, ones_step m (length v) i h);
-        room = f.room;
-      }
-
-  pub read_done : length v ≤ i → v ≡ values_at (number_fields v₀) map (drop from s)
-  read_done h = sym (simp (drop_of_length-le, take_all, append-nil, values_none) (refl)) ∙ f.is
-
-  pub read_place : length v ≤ i → at ≡ from + 4 * ones (length v₀) map
-  read_place h = omega (arith, f.place, no_ones m (length v) i h)
+-- and those of u32s are the fields' own
+pub values_same : (ds : List ℕ) (m : ℕ) (s : List ℕ) → values_as (λ (n : ℕ). n) ds m s ≡ values_at (number_fields ds) m s
+values_same ds m s =
+    ap (λ (l : List ℕ). values_as (λ (n : ℕ). n) l m s) (sym (map-id ds)) ∙ values_made (λ (n : ℕ). n) ds m s ∙ map-id (values_at (number_fields ds) m s)
 
 -- ---- writing
 
@@ -257,9 +282,6 @@ pub record Writing (out₀ : List ℕ) (from map : ℕ) (v : List ℕ) (out : Li
   pub is : put_at out at (body_of (number_fields (drop i v)) m (drop i v)) ≡ put_at out₀ from (body_of (number_fields v) map v)
   pub place : at + 4 * ones (length v - i) m ≡ from + 4 * ones (length v) map
   pub room : from + 4 * ones (length v) map ≤ length out₀
-
-pub write_starts : (out : List ℕ) (from map : ℕ) (v : List ℕ) → from + 4 * ones (length v) map ≤ length out → Writing out from map v out from map 0
-write_starts out from map v h = record { below = omega arith; long = refl; is = refl; place = rw (sub-zero (length v)); room = h }
 
 module _ {out₀ : List ℕ} {from map : ℕ} {v : List ℕ} {out : List ℕ} {at m i : ℕ} (f : Writing out₀ from map v out at m i) where
   pub write_room : i < length v → m % 2 ≡ 1 → at + 4 ≤ length out
@@ -369,7 +391,7 @@ bit_small true = omega arith
 bit_small false = omega arith
 
 -- what holds in each turn of `map_of`
-pub record Mapping (keep v missing : List ℕ) (m i : ℕ) : Type 0 where
+pub record Mapping (keep : List Bool) (v missing : List ℕ) (m i : ℕ) : Type 0 where
   pub below : i ≤ length keep
   pub is : m ≡ map_of (number_fields (drop i missing)) (drop i keep) (drop i v)
   pub small : m < 2 ^ (length keep - i)
@@ -380,7 +402,7 @@ map_none [] v = refl
 map_none (f ∷ fs) v = refl
 
 -- where no number after the first ones is written, the map is theirs
-pub map_front : (ds es ks ls us vs : List ℕ) → length ks ≡ length ds → length us ≡ length ds → map_of (number_fields es) ls vs ≡ 0
+pub map_front : (ds es : List ℕ) (ks ls : List Bool) (us vs : List ℕ) → length ks ≡ length ds → length us ≡ length ds → map_of (number_fields es) ls vs ≡ 0
     → map_of (number_fields (ds ++ es)) (ks ++ ls) (us ++ vs) ≡ map_of (number_fields ds) ks us
 unfolding map_of number_fields
 map_front [] es [] ls [] vs lk lu z = z
@@ -390,64 +412,36 @@ map_front (d ∷ ds) es [] ls us vs lk lu z = absurd (omega arith)
 map_front (d ∷ ds) es (k ∷ ks) ls [] vs lk lu z = absurd (omega arith)
 map_front (d ∷ ds) es (k ∷ ks) ls (u ∷ us) vs lk lu z = rw (map_front ds es ks ls us vs (omega arith) (omega arith) z)
 
-pub map_starts : (keep v missing : List ℕ) → Mapping keep v missing 0 (length keep)
+pub map_starts : (keep : List Bool) (v missing : List ℕ) → Mapping keep v missing 0 (length keep)
 map_starts keep v missing =
     let z : length keep - length keep ≡ 0 = omega arith in
     record { below = omega arith; is = sym (rw (drop-length keep) (map_none _ _)); small = rw z (lit< tt) }
 
-module _ {keep v missing : List ℕ} {m i : ℕ} (f : Mapping keep v missing m i) (lv : length v ≡ length keep) (ld : length missing ≡ length keep) where
+module _ {keep : List Bool} {v missing : List ℕ} {m i : ℕ} (f : Mapping keep v missing m i) (lv : length v ≡ length keep) (ld : length missing ≡ length keep) where
   map_step : (j : ℕ) → suc j ≡ i
       → map_of (number_fields (drop j missing)) (drop j keep) (drop j v)
-      ≡ bit_of (is_written (get_or keep j 0) (get_or v j 0) (get_or missing j 0))
+      ≡ bit_of (is_written (get_or keep j false) (get_or v j 0) (get_or missing j 0))
       + 2 * map_of (number_fields (drop i missing)) (drop i keep) (drop i v)
   unfolding map_of number_fields
-  map_step j e = rw (← e, drop-cons keep j 0 (omega (arith, f.below)), drop-cons v j 0 (omega (arith, f.below)), drop-cons missing j 0 (omega (arith, f.below)))
+  map_step j e = rw (← e, drop-cons keep j false (omega (arith, f.below)), drop-cons v j 0 (omega (arith, f.below)), drop-cons missing j 0 (omega (arith, f.below)))
 
   pub map_fits : length keep ≤ 40 → m < 2 ^ 40
   map_fits h = lt_of_lt_of_le f.small (pow_mono {i = length keep - i} {j = 40} (omega arith))
 
-  pub map_turn : 0 < i → (b : ℕ) → b ≡ bit_of (is_written (get_or keep (i - 1) 0) (get_or v (i - 1) 0) (get_or missing (i - 1) 0)) → Mapping keep v missing (2 * m + b) (i - 1)
+  pub map_turn : 0 < i → (b : ℕ) → b ≡ bit_of (is_written (get_or keep (i - 1) false) (get_or v (i - 1) 0) (get_or missing (i - 1) 0)) → Mapping keep v missing (2 * m + b) (i - 1)
   map_turn h b e =
       record {
         below = omega (arith, f.below);
         is = omega (arith, map_step (i - 1) (omega arith), e, f.is);
         small =
             let q : length keep - (i - 1) ≡ suc (length keep - i) = omega (arith, f.below) in
-            rw (q, pow-suc 2 (length keep - i)) (omega (arith, f.small, e, bit_small (is_written (get_or keep (i - 1) 0) (get_or v (i - 1) 0) (get_or missing (i - 1) 0))));
+            rw (q, pow-suc 2 (length keep - i)) (omega (arith, f.small, e, bit_small (is_written (get_or keep (i - 1) false) (get_or v (i - 1) 0) (get_or missing (i - 1) 0))));
       }
 
-pub map_done : {keep v missing : List ℕ} {m i : ℕ} → Mapping keep v missing m i → length v ≡ length keep
+pub map_done : {keep : List Bool} {v missing : List ℕ} {m i : ℕ} → Mapping keep v missing m i → length v ≡ length keep
     → length missing ≡ length keep → length keep ≤ 40 → i ≤ 0
     → (m ≡ map_of (number_fields missing) keep v) × (m < 2 ^ length keep) × (m < 2 ^ 40)
 map_done {keep} {v} {missing} {m} {i} f lv ld h k =
     let z : i ≡ 0 = omega arith in
     let s : length keep - i ≡ length keep = omega arith in
     (rw z at f.is, rw s at f.small, map_fits f lv ld h)
-
--- `changed`: the same map, where no number is written whatever its value
-module _ (v missing : List ℕ) where
-  abbrev pub none : List ℕ
-  none = replicate (length v) 0
-
-  abbrev pub Changing : ℕ → ℕ → Type 0
-  Changing m i = Mapping none v missing m i
-
-  none_long : length none ≡ length v
-  none_long = length-replicate (length v) 0
-
-  pub changed_starts : Changing 0 (length v)
-  changed_starts = rw none_long at (map_starts none v missing)
-
-  module _ {m i : ℕ} (f : Changing m i) (l : length missing ≡ length v) where
-    pub changed_below : i ≤ length v
-    changed_below = rw none_long at f.below
-
-    pub changed_fits : length v ≤ 40 → m < 2 ^ 40
-    changed_fits h = map_fits f (sym none_long) (l ∙ sym none_long) (rw none_long h)
-
-    pub changed_turn : 0 < i → (b : ℕ) → b ≡ bit_of (is_written 0 (get_or v (i - 1) 0) (get_or missing (i - 1) 0)) → Changing (2 * m + b) (i - 1)
-    changed_turn h b e =
-        map_turn f (sym none_long) (l ∙ sym none_long) h b (rw (get_or-replicate {A = ℕ} (length v) (i - 1) 0 0 (omega (arith, changed_below))) e)
-
-    pub changed_done : length v ≤ 40 → i ≤ 0 → (m ≡ map_of (number_fields missing) (replicate (length v) 0) v) × (m < 2 ^ length v) × (m < 2 ^ 40)
-    changed_done h z = rw none_long at (map_done f (sym none_long) (l ∙ sym none_long) (rw none_long h) z)

@@ -13,11 +13,11 @@ use lib.ListN.{length, drop, take, replicate, length-replicate, length-append, r
 use lib.Pow.{shr-shr}
 use lib.Seq.{take_at, drop_at, drop-drop}
 use Rattle.fields.specs.Bytes.{number_at}
-use Rattle.fields.specs.Fields.{ones, number_fields, values_at}
+use Rattle.fields.specs.Fields.{ones, number_fields, values_at, values_as}
 use Rattle.fields.specs.Numbers.{floats_of}
 use Rattle.fields.proofs.MapLaw.{floats_length, floats_joined}
 use Rattle.fields.proofs.FieldLaw.{ones_none, ones_more, ones_low, low_bit, low_half, numbers_long, values_long}
-use Rattle.fields.proofs.FloatLaw.{none}
+use Rattle.fields.proofs.FloatLaw.{none, floats_none, floats_made}
 
 -- n numbers, each of which missing is 0
 abbrev Values : ℕ → ℕ → List ℕ → List ℕ
@@ -26,6 +26,10 @@ Values n m s = values_at (number_fields (replicate n 0)) m s
 -- and their f32s
 abbrev pub Floats : ℕ → ℕ → List ℕ → List Float
 Floats n m s = floats_of (Values n m s)
+
+-- what is read over n f32s that are +0
+floats_read : (n m : ℕ) (s : List ℕ) → values_as (of_bits binary32) (none n) m s ≡ Floats n m s
+floats_read n m s = ap (λ (l : List Float). values_as (of_bits binary32) l m s) (sym (floats_none n)) ∙ floats_made (replicate n 0) m s
 
 half_of : (m a : ℕ) → m / 2 / 2 ^ a ≡ m / 2 ^ suc a
 half_of m a = shr-shr m 1 a ∙ ap (λ (k : ℕ). m / 2 ^ k) (omega arith)
@@ -114,19 +118,19 @@ module _ {s : List ℕ} {from map n : ℕ} {v : List Float} {k at : ℕ} (f : Fi
       omega (arith, all, ones_group k d map, f.place, f.room)
 
   -- what its reader asks
-  pub asks_floats : (mid_of k d v ≡ none (length (mid_of k d v))) × (at + 4 * ones (length (mid_of k d v)) (map / 2 ^ k % 2 ^ d) ≤ length s)
-  asks_floats = (next_none ∙ ap none (sym next_long), rw next_long next_room)
+  pub asks_floats : at + 4 * ones (length (mid_of k d v)) (map / 2 ^ k % 2 ^ d) ≤ length s
+  asks_floats = rw next_long next_room
 
   pub asks_group : (all : ℕ) → all ≡ 2 ^ d - 1
-      → (all ≡ 2 ^ length (mid_of k d v) - 1) × (mid_of k d v ≡ none (length (mid_of k d v))) × (at + 4 * ones (length (mid_of k d v)) (map / 2 ^ k % 2 ^ d) ≤ length s)
-  asks_group all e = (rw next_long e, asks_floats.0, asks_floats.1)
+      → (all ≡ 2 ^ length (mid_of k d v) - 1) × (at + 4 * ones (length (mid_of k d v)) (map / 2 ^ k % 2 ^ d) ≤ length s)
+  asks_group all e = (rw next_long e, asks_floats)
 
   -- and gives
   pub filled_more : (p : List Float) (next : ℕ)
-      → (p ≡ Floats (length (mid_of k d v)) (map / 2 ^ k % 2 ^ d) (drop at s)) × (next ≡ at + 4 * ones (length (mid_of k d v)) (map / 2 ^ k % 2 ^ d))
+      → (p ≡ values_as (of_bits binary32) (mid_of k d v) (map / 2 ^ k % 2 ^ d) (drop at s)) × (next ≡ at + 4 * ones (length (mid_of k d v)) (map / 2 ^ k % 2 ^ d))
       → Filled s from map n (put_mid k d v p) (k + d) next
   filled_more p next g =
-      let e : p ≡ Floats d (map / 2 ^ k % 2 ^ d) (drop at s) = rw next_long at g.0 in
+      let e : p ≡ Floats d (map / 2 ^ k % 2 ^ d) (drop at s) = rw next_none at g.0 ∙ floats_read d (map / 2 ^ k % 2 ^ d) (drop at s) in
       let en : next ≡ at + 4 * ones d (map / 2 ^ k % 2 ^ d) = rw next_long at g.1 in
       let front : take k v ≡ Floats k map (drop from s) = rw f.is (take_at (Floats k map (drop from s)) (none (n - k)) k (floats_long k map (drop from s))) in
       let back : drop d (drop k v) ≡ none (n - (k + d)) =
@@ -146,11 +150,11 @@ module _ (s : List ℕ) (from map n d : ℕ) (h : d ≤ n) (room : from + 4 * on
   whole : map / 1 % 2 ^ d ≡ map % 2 ^ d
   whole = let z : map / 1 ≡ map = omega arith in rw z
 
-  pub asks_first : (mid_of 0 d (none n) ≡ none (length (mid_of 0 d (none n)))) × (from + 4 * ones (length (mid_of 0 d (none n))) (map % 2 ^ d) ≤ length s)
+  pub asks_first : from + 4 * ones (length (mid_of 0 d (none n))) (map % 2 ^ d) ≤ length s
   asks_first = rw whole at (asks_floats start d (omega arith))
 
   pub filled_first : (p : List Float) (next : ℕ)
-      → (p ≡ Floats (length (mid_of 0 d (none n))) (map % 2 ^ d) (drop from s)) × (next ≡ from + 4 * ones (length (mid_of 0 d (none n))) (map % 2 ^ d))
+      → (p ≡ values_as (of_bits binary32) (mid_of 0 d (none n)) (map % 2 ^ d) (drop from s)) × (next ≡ from + 4 * ones (length (mid_of 0 d (none n))) (map % 2 ^ d))
       → Filled s from map n (put_mid 0 d (none n) p) d next
   filled_first p next g =
       let e : 0 + d ≡ d = omega arith in

@@ -1,16 +1,15 @@
 -- Laws of numbers in bytes. Assumes nothing.
 use mathlib.Core.Path.{◌≡◌, refl, sym, ap, subst, ◌∙◌}
 use mathlib.Core.Bool.{Bool, true, false, not}
-use mathlib.Core.List.{List, [], ◌∷◌, ◌++◌, append_assoc}
+use mathlib.Core.List.{List, [], ◌∷◌, ◌++◌, append_assoc, append-nil}
 use Prim.Native.Nat.{ℕ, zero, suc, ◌+◌, ◌-◌, ◌*◌, ◌/◌, ◌%◌, ◌<◌, ◌≤◌, ◌^◌}
 use native.Mathlib.Omega.{arith}
 use native.Mathlib.Numerals.{add-one}
-use native.Mathlib.Nat.{sub-zero, pow-suc, pow-zero, pow-le-pow_right, lt_of_lt_of_le}
+use native.Mathlib.Nat.{pow-suc, pow-zero, pow-le-pow_right, lt_of_lt_of_le}
 use lib.Dec.{T, ltb, lit<}
-use lib.ListN.{length, set, get_or, take, drop, length-set, take-append-drop}
-use lib.Seq.{drop-drop, drop_at, get_or-drop, take-suc-set, drop-set-lt}
-use lib.Ieee.Compare.{nan_differs}
-use lib.Ieee.{Float, nan, inf, fin, binary32, is_nan, ne, div, of_bits, to_bits, nan_bits}
+use lib.ListN.{length, set, get_or, take, drop, length-set}
+use lib.Seq.{drop-drop, drop_at, get_or-drop, take_all, take-suc-set}
+use lib.Ieee.{Float, nan, inf, fin, binary32, is_nan, of_bits, to_bits, nan_bits}
 use lib.Ieee.Bits.{nan_bits_is, nan_bits_above}
 use Rattle.fields.specs.Bytes.{number_at, bytes_of}
 
@@ -80,48 +79,43 @@ module _ {s : List ℕ} {n v i : ℕ} (r : Reading s n v i) where
       let q : n - i ≡ n = omega arith in
       (rw (q, z) at r.is, rw q at r.small)
 
--- ---- `write_number`: bytes 0 to i are written, v is what is left of the number
+-- ---- `write_number`: bytes 0 to i of p are written, v is what is left of the number
 
-pub record Writing (p₀ : List ℕ) (n number : ℕ) (p : List ℕ) (v i : ℕ) : Type 0 where
+pub record Writing (n number : ℕ) (p : List ℕ) (v i : ℕ) : Type 0 where
   pub below : i ≤ n
-  pub long : length p ≡ length p₀
-  pub room : n ≤ length p₀
-  pub is : take i p ++ (bytes_of (n - i) v ++ drop n p) ≡ bytes_of n number ++ drop n p₀
+  pub long : length p ≡ n
+  pub is : take i p ++ bytes_of (n - i) v ≡ bytes_of n number
 
-pub write_starts : (p : List ℕ) (n number : ℕ) → n ≤ length p → Writing p n number p number 0
-write_starts p n number h = record { below = omega arith; long = refl; room = h; is = rw (sub-zero n) }
-
-module _ {p₀ : List ℕ} {n number : ℕ} {p : List ℕ} {v i : ℕ} (w : Writing p₀ n number p v i) where
+module _ {n number : ℕ} {p : List ℕ} {v i : ℕ} (w : Writing n number p v i) where
   first_byte : i < n → bytes_of (n - i) v ≡ v % 256 ∷ bytes_of (n - (i + 1)) (v / 256)
   unfolding bytes_of
   first_byte h = let e : n - i ≡ suc (n - (i + 1)) = omega arith in rw e
 
-  pub write_turn : i < n → Writing p₀ n number (set p i (v % 256)) (v / 256) (i + 1)
+  pub write_turn : i < n → Writing n number (set p i (v % 256)) (v / 256) (i + 1)
   write_turn h =
-      let here : i < length p = omega (arith, w.long, w.room) in
+      let here : i < length p = omega (arith, w.long) in
       record {
         below = omega arith;
         long = simp length-set w.long;
-        room = w.room;
         is =
-            rw (add-one i, take-suc-set p i (v % 256) here, drop-set-lt n p i (v % 256) h, ← add-one i)
-            (append_assoc (take i p) (v % 256 ∷ []) (bytes_of (n - (i + 1)) (v / 256) ++ drop n p)
-            ∙ ap (λ (bs : List ℕ). take i p ++ (bs ++ drop n p)) (sym (first_byte h)) ∙ w.is);
+            rw (add-one i, take-suc-set p i (v % 256) here, ← add-one i)
+            (append_assoc (take i p) (v % 256 ∷ []) (bytes_of (n - (i + 1)) (v / 256))
+            ∙ ap (λ (bs : List ℕ). take i p ++ bs) (sym (first_byte h)) ∙ w.is);
       }
 
   no_bytes : n ≤ i → bytes_of (n - i) v ≡ []
   unfolding bytes_of
   no_bytes h = let z : n - i ≡ 0 = omega arith in rw z
 
-  pub write_done : n ≤ i → p ≡ bytes_of n number ++ drop n p₀
+  pub write_done : n ≤ i → p ≡ bytes_of n number
   write_done h =
-      let e : i ≡ n = omega (arith, w.below) in
-      sym (rw (no_bytes h, e) (take-append-drop n p)) ∙ w.is
+      let all : take i p ≡ p = take_all i p (omega (arith, w.long)) in
+      sym (rw (no_bytes h, all) (append-nil p)) ∙ w.is
 
 -- ---- the bits of an f32
 
 -- only nan is a NaN
-nan_of : (x : Float) → is_nan x ≡ true → x ≡ nan
+pub nan_of : (x : Float) → is_nan x ≡ true → x ≡ nan
 unfolding is_nan
 nan_of nan e = refl
 nan_of (inf s) e = elim (subst T (sym e) tt) [ ]
@@ -134,23 +128,9 @@ nan_bits_lem n h = nan_of (of_bits binary32 n) (sym (nan_bits_is binary32 n) ∙
 pub no_nan_bits : (n : ℕ) → ltb 0x7f800000 (n % 0x80000000) ≡ false → nan_bits binary32 n ≡ false
 no_nan_bits n h = nan_bits_above binary32 n ∙ h
 
-nan_differs_itself : (x : Float) → is_nan x ≡ true → ne x x ≡ true
-nan_differs_itself x e = rw (nan_of x e) nan_differs
-
-pub same_no_nan : (x : Float) → ne x x ≡ false → is_nan x ≡ false
-same_no_nan x e = go (is_nan x) refl
-  where
-    go : (b : Bool) → is_nan x ≡ b → b ≡ false
-    go true q = sym (nan_differs_itself x q) ∙ e
-    go false q = refl
-
 pub bits_of_nan : to_bits binary32 nan ≡ 0x7fc00000
 unfolding to_bits
 bits_of_nan = refl
-
-pub zero_over_zero : div binary32 (of_bits binary32 0) (of_bits binary32 0) ≡ nan
-unfolding div of_bits
-zero_over_zero = refl
 
 pub not-false : {b : Bool} → b ≡ false → T (not b)
 not-false e = rw e tt

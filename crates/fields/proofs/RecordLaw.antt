@@ -12,6 +12,7 @@ use lib.Pow.{pow_pos}
 use lib.ListN.{length, drop, get_or}
 use lib.Ieee.{Float, binary32, fits}
 use lib.Ieee.Bits.{of_bits-to_bits, of_bits-fits, to_bits-lt}
+use Rattle.std.proofs.lemmas.List.{get_or-map}
 use Rattle.fields.specs.Bytes.{number_at, bytes_of}
 use Rattle.fields.specs.Fields.{Field, stands, size_of, values_at, is_written, bit_of, map_of, body_of, number_fields, Held}
 use Rattle.fields.specs.Numbers.{floats_of, bits_of, AreF32}
@@ -29,7 +30,7 @@ low_bit true m = eq-eqb ((1 + 2 * m) % 2) 1 (omega arith)
 low_bit false m = ne_eqb ((0 + 2 * m) % 2) 1 (λ (e : (0 + 2 * m) % 2 ≡ 1). omega arith)
 
 -- a map of n fields is below 2 ^ n: no bit is unnamed
-pub map_small : (fs : List Field) (ks vs : List ℕ) → map_of fs ks vs < 2 ^ length fs
+pub map_small : (fs : List Field) (ks : List Bool) (vs : List ℕ) → map_of fs ks vs < 2 ^ length fs
 unfolding map_of
 map_small [] ks vs = lit< tt
 map_small (f ∷ fs) [] vs = pow_pos (length (f ∷ fs))
@@ -41,8 +42,8 @@ abbrev pub field_at : List Field → ℕ → Field
 field_at fs n = get_or fs n (record { bytes = 0; missing = 0 })
 
 -- bit n of a map says whether field n is written
-pub map_bit : (n : ℕ) (fs : List Field) (ks vs : List ℕ) → n < length fs → length ks ≡ length fs → length vs ≡ length fs
-    → map_of fs ks vs / 2 ^ n % 2 ≡ bit_of (is_written (get_or ks n 0) (get_or vs n 0) (field_at fs n).missing)
+pub map_bit : (n : ℕ) (fs : List Field) (ks : List Bool) (vs : List ℕ) → n < length fs → length ks ≡ length fs → length vs ≡ length fs
+    → map_of fs ks vs / 2 ^ n % 2 ≡ bit_of (is_written (get_or ks n false) (get_or vs n 0) (field_at fs n).missing)
 unfolding map_of
 map_bit n [] ks vs h lk lv = absurd (omega arith)
 map_bit n (f ∷ fs) [] vs h lk lv = absurd (omega arith)
@@ -57,15 +58,15 @@ map_bit (suc n) (f ∷ fs) (k ∷ ks) (v ∷ vs) h lk lv =
 -- ---- the field law
 
 -- what is left out is what missing means
-left_out : (k v d : ℕ) → is_written k v d ≡ false → d ≡ v
-left_out k v d e = go (eqb k 1) (eqb v d) refl e
+left_out : (k : Bool) (v d : ℕ) → is_written k v d ≡ false → d ≡ v
+left_out k v d e = go k (eqb v d) refl e
   where
     go : (a b : Bool) → eqb v d ≡ b → (a || not b) ≡ false → d ≡ v
     go a true p q = sym (eqb-true v d p)
     go true false p q = absurd (subst T q tt)
     go false false p q = absurd (subst T q tt)
 
-pub fields_back : (fs : List Field) (ks vs rest : List ℕ) → length ks ≡ length fs → Held fs vs
+pub fields_back : (fs : List Field) (ks : List Bool) (vs rest : List ℕ) → length ks ≡ length fs → Held fs vs
     → values_at fs (map_of fs ks vs) (body_of fs (map_of fs ks vs) vs ++ rest) ≡ vs
 unfolding values_at body_of map_of Held
 fields_back [] ks [] rest lk h = refl
@@ -92,7 +93,7 @@ fields_back (f ∷ fs) (k ∷ ks) (v ∷ vs) rest lk h =
 -- ---- a record that was read is written with no more fields than it had
 
 -- each field that is written stands in m
-unfoldable pub Within : List Field → List ℕ → List ℕ → ℕ → Type 0
+unfoldable pub Within : List Field → List Bool → List ℕ → ℕ → Type 0
 Within [] ks vs m = Unit {0}
 Within (f ∷ fs) [] vs m = Unit {0}
 Within (f ∷ fs) (k ∷ ks) [] m = Unit {0}
@@ -103,7 +104,7 @@ unfolding size_of
 no_size [] = refl
 no_size (f ∷ fs) = omega (arith, no_size fs)
 
-pub size_within : (fs : List Field) (ks vs : List ℕ) (m : ℕ) → Within fs ks vs m → size_of fs (map_of fs ks vs) ≤ size_of fs m
+pub size_within : (fs : List Field) (ks : List Bool) (vs : List ℕ) (m : ℕ) → Within fs ks vs m → size_of fs (map_of fs ks vs) ≤ size_of fs m
 unfolding size_of map_of Within
 size_within [] ks vs m h = omega arith
 size_within (f ∷ fs) [] vs m h = omega (arith, no_size fs)
@@ -173,6 +174,4 @@ bits_held (d ∷ ds) (x ∷ xs) l h = (to_bits-lt binary32 x h.0, bits_held ds x
 
 -- an element of a mapped list
 pub get_d_mapped : {A B : Type 0} (f : A → B) (xs : List A) (n : ℕ) (d : A) (e : B) → n < length xs → get_or (map f xs) n e ≡ f (get_or xs n d)
-get_d_mapped f [] n d e h = absurd (omega arith)
-get_d_mapped f (x ∷ xs) zero d e h = refl
-get_d_mapped f (x ∷ xs) (suc n) d e h = get_d_mapped f xs n d e (omega arith)
+get_d_mapped f xs n d e h = get_or-map f xs n d e h

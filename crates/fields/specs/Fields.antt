@@ -33,17 +33,17 @@ values_at (f ∷ fs) m s =
     (number_at f.bytes s ∷ values_at fs (m / 2) (drop f.bytes s))
     (f.missing ∷ values_at fs (m / 2) s)
 
--- Writing: "the writer leaves out what missing would give, compared as bits". k is 1 for a field that is written
+-- Writing: "the writer leaves out what missing would give, compared as bits". k is true for a field that is written
 -- whatever its value: the kind, and a leg, an airspeed or a cap that is present.
-abbrev pub is_written : ℕ → ℕ → ℕ → Bool
-is_written k v missing = eqb k 1 || not (eqb v missing)
+abbrev pub is_written : Bool → ℕ → ℕ → Bool
+is_written k v missing = k || not (eqb v missing)
 
 -- a bit that stands, or does not
 abbrev pub bit_of : Bool → ℕ
 bit_of b = cond b 1 0
 
 -- the map of the fields that are written
-unfoldable pub map_of : List Field → List ℕ → List ℕ → ℕ
+unfoldable pub map_of : List Field → List Bool → List ℕ → ℕ
 map_of [] ks vs = 0
 map_of (f ∷ fs) [] vs = 0
 map_of (f ∷ fs) (k ∷ ks) [] = 0
@@ -60,10 +60,22 @@ unfoldable pub ones : ℕ → ℕ → ℕ
 ones zero m = 0
 ones (suc n) m = m % 2 + ones n (m / 2)
 
+-- the place after the numbers that stand among the n lowest bits of a map, read or written from a place on
+abbrev pub place_after : ℕ → ℕ → ℕ → ℕ
+place_after from n m = from + 4 * ones n m
+
 -- fields that are numbers, of four bytes each
 unfoldable pub number_fields : List ℕ → List Field
 number_fields [] = []
 number_fields (d ∷ ds) = record { bytes = 4; missing = d } ∷ number_fields ds
+
+-- The same as values_at where v has numbers of another kind: `of` makes one of the bits that are read, and v's own stays where none stands.
+unfoldable pub values_as : {A : Type 0} → (ℕ → A) → List A → ℕ → List ℕ → List A
+values_as of [] m s = []
+values_as of (x ∷ xs) m s =
+    cond (stands m)
+    (of (number_at 4 s) ∷ values_as of xs (m / 2) (drop 4 s))
+    (x ∷ values_as of xs (m / 2) s)
 
 -- one value for each field, and each is one that the field's bytes can spell
 unfoldable pub Held : List Field → List ℕ → Type 0

@@ -1,27 +1,35 @@
 // Numbers in bytes, low byte first.
-ghost use Rattle.std.specs.Prelude.{◌≡◌, ◌++◌, ◌≤◌, ◌<◌, ◌^◌, length, drop};
+ghost use Rattle.std.specs.Prelude.{◌≡◌, ◌++◌, ◌≤◌, ◌<◌, ◌^◌, ℕ, length, drop};
 ghost use Rattle.std.specs.Float.{binary32};
 ghost use Rattle.std.specs.Float.Ieee.{of_bits, to_bits};
-ghost use Rattle.fields.specs.Bytes.{number_at, bytes_of};
+ghost use Rattle.fields.specs.Bytes.{number_at, bytes_of, has_bytes};
 
-fn wide(b: u8) -> u64
-    ensures { (result ≡ b) × (result < 256) }
+// Whether s has n bytes from a place on.
+pub fn has_bytes(s: &[u8], at: usize, n: usize) -> bool
+    ensures { result ≡ has_bytes s.now at n }
 {
-    b as u64
+    at <= s.len() && n <= s.len() - at
 }
 
-// The number that the first n bytes spell: a map takes 4 or 5 bytes, an f32's bits 4.
+// The number that the first n bytes spell: a map takes 4 or 5 bytes, a byte 1.
+#[tactic(auto, using(crate::proofs::NumberLaw::read_fits))]
 pub fn read_number(part: &[u8], n: usize) -> u64
     requires { (n ≤ 7) × (n ≤ length part.now) }
     ensures { (result ≡ number_at n part.now) × (result < 256 ^ n) }
 {
     let mut v: u64 = 0;
-    let mut i = n;
-    while 0 < i {
-        i -= 1;
-        v = 256 * v + wide(part[i]);
+    for i in (0..n).rev() {
+        v = 256 * v + u64::from(part[i]);
     }
     v
+}
+
+// The number that the first four bytes spell.
+pub fn read_word(part: &[u8]) -> u32
+    requires { 4 ≤ length part.now }
+    ensures { result ≡ number_at 4 part.now }
+{
+    u32::from_le_bytes([part[0], part[1], part[2], part[3]])
 }
 
 // Writes the n bytes of a number.
@@ -30,11 +38,41 @@ pub fn write_number(part: &mut [u8], n: usize, number: u64)
     ensures { part.new ≡ bytes_of n number ++ drop n part.old }
 {
     let mut v = number;
-    let mut i = 0;
-    while i < n {
-        part[i] = (v % 256) as u8;
+    for b in part[..n].iter_mut() {
+        *b = (v % 256) as u8;
         v = v / 256;
-        i += 1;
+    }
+}
+
+// Writes the four bytes of a number.
+pub fn write_word(part: &mut [u8], number: u32)
+    requires { 4 ≤ length part.old }
+    ensures { part.new ≡ bytes_of 4 number ++ drop 4 part.old }
+{
+    part[..4].copy_from_slice(&number.to_le_bytes());
+}
+
+// What a field of four bytes holds: a u32 as it is, an f32 by its bits, every NaN alike.
+pub trait Number: Copy {
+    ghost of_bits: { ℕ → Self };
+
+    fn of_bits(bits: u32) -> Self
+        ensures { result ≡ of_bits bits };
+}
+
+impl Number for u32 {
+    ghost of_bits = { λ n. n };
+
+    fn of_bits(bits: u32) -> u32 {
+        bits
+    }
+}
+
+impl Number for f32 {
+    ghost of_bits = { of_bits binary32 };
+
+    fn of_bits(bits: u32) -> f32 {
+        from_bits(bits)
     }
 }
 
@@ -48,7 +86,7 @@ pub fn from_bits(bits: u32) -> f32
     ensures { result ≡ of_bits binary32 bits }
 {
     if bits % SIGN > INFINITY {
-        return 0.0 / 0.0;
+        return f32::NAN;
     }
     f32::from_bits(bits)
 }
@@ -57,7 +95,7 @@ pub fn from_bits(bits: u32) -> f32
 pub fn to_bits(v: f32) -> u32
     ensures { result ≡ to_bits binary32 v }
 {
-    if v != v {
+    if v.is_nan() {
         return 0x7fc00000;
     }
     f32::to_bits(v)

@@ -1,83 +1,71 @@
-// Lists of f32s and their bits.
-ghost use Rattle.std.specs.Prelude.{◌≡◌, ◌≤◌, ◌+◌, ◌-◌, ◌*◌, ◌^◌, length, drop, replicate};
+// Lists of f32s, their bits, and groups of them in a record.
+ghost use Rattle.std.specs.Prelude.{◌≡◌, ◌≤◌, ◌-◌, ◌*◌, ◌^◌, length, drop};
 ghost use Rattle.std.specs.Float.{binary32};
 ghost use Rattle.std.specs.Float.Ieee.{of_bits};
-ghost use Rattle.fields.specs.Fields.{ones, values_at, number_fields};
-ghost use Rattle.fields.specs.Numbers.{floats_of, bits_of};
+ghost use Rattle.fields.specs.Fields.{place_after, values_as};
+ghost use Rattle.fields.specs.Numbers.{floats_of, bits_of, numbers_at};
 
-use crate::Cursor;
-use crate::bytes::{from_bits, read_number, to_bits};
+use crate::bytes::{from_bits, read_word, to_bits};
+use crate::read_values;
 
+// The f32s with these bits. Here and below by index: of what a zip over iter_mut leaves, a proof knows the length alone.
 pub fn floats(bits: &[u32], v: &mut [f32])
     requires { length v.old ≡ length bits.now }
     ensures { v.new ≡ floats_of bits.now }
 {
-    let mut i = 0;
-    while i < bits.len() {
-        v[i] = from_bits(bits[i]);
-        i += 1;
+    for (i, x) in v.iter_mut().enumerate() {
+        *x = from_bits(bits[i]);
     }
 }
 
+// The bits of f32s. A loop of its own: shared with the one above it would be a closure's contract in place of a line.
 pub fn bits(v: &[f32], out: &mut [u32])
     requires { length out.old ≡ length v.now }
     ensures { out.new ≡ bits_of v.now }
 {
-    let mut i = 0;
-    while i < v.len() {
-        out[i] = to_bits(v[i]);
-        i += 1;
+    for (i, b) in out.iter_mut().enumerate() {
+        *b = to_bits(v[i]);
     }
 }
 
-// Reads each f32 whose bit stands; the others stay +0.
-pub fn read_floats(s: &[u8], from: Cursor, map: u64, v: &mut [f32]) -> Cursor
-    requires { (v.old ≡ replicate (length v.old) (of_bits binary32 0)) × (from.at + 4 * ones (length v.old) map ≤ length s.now) }
-    ensures { (v.new ≡ floats_of (values_at (number_fields (replicate (length v.old) 0)) map (drop from.at s.now))) × (result.at ≡ from.at + 4 * ones (length v.old) map) }
+// The same of an array.
+pub fn floats_of<const N: usize>(b: [u32; N]) -> [f32; N]
+    ensures { result ≡ floats_of b.entry }
 {
-    if map == 0 {
-        return from;
-    }
-    let mut rest = from;
-    let mut m = map;
-    let mut i = 0;
-    while i < v.len() {
-        let here = i;
-        let bit = m % 2;
-        i += 1;
-        m = m / 2;
-        if bit == 1 {
-            let at = rest.at;
-            v[here] = from_bits(read_number(&s[at..], 4) as u32);
-            rest = Cursor { at: at + 4 };
-        }
-    }
-    rest
+    let mut v = [0.0f32; N];
+    floats(&b, &mut v);
+    v
 }
 
-// The same where every bit stands.
-fn read_all(s: &[u8], from: Cursor, v: &mut [f32]) -> Cursor
-    requires { (v.old ≡ replicate (length v.old) (of_bits binary32 0)) × (from.at + 4 * length v.old ≤ length s.now) }
-    ensures { (v.new ≡ floats_of (values_at (number_fields (replicate (length v.old) 0)) (2 ^ length v.old - 1) (drop from.at s.now))) × (result.at ≡ from.at + 4 * length v.old) }
+// The same of an array.
+pub fn bits_of<const N: usize>(v: [f32; N]) -> [u32; N]
+    ensures { result ≡ bits_of v.entry }
 {
-    let mut at = from.at;
-    let mut i = 0;
-    while i < v.len() {
-        v[i] = from_bits(read_number(&s[at..], 4) as u32);
+    let mut b = [0u32; N];
+    bits(&v, &mut b);
+    b
+}
+
+// Reads f32s that stand one behind the other.
+pub fn read_all(s: &[u8], v: &mut [f32])
+    requires { 4 * length v.old ≤ length s.now }
+    ensures { v.new ≡ numbers_at (length v.old) s.now }
+{
+    let mut at = 0;
+    for x in v.iter_mut() {
+        *x = from_bits(read_word(&s[at..]));
         at += 4;
-        i += 1;
     }
-    Cursor { at }
 }
 
 // Reads a group of f32s of which as a rule each stands: all is the map of that.
-pub fn read_group(s: &[u8], from: Cursor, map: u64, all: u64, v: &mut [f32]) -> Cursor
-    requires { (all ≡ 2 ^ length v.old - 1) × (v.old ≡ replicate (length v.old) (of_bits binary32 0)) × (from.at + 4 * ones (length v.old) map ≤ length s.now) }
-    ensures { (v.new ≡ floats_of (values_at (number_fields (replicate (length v.old) 0)) map (drop from.at s.now))) × (result.at ≡ from.at + 4 * ones (length v.old) map) }
+pub fn read_group(s: &[u8], from: usize, map: u64, all: u64, v: &mut [f32]) -> usize
+    requires { (all ≡ 2 ^ length v.old - 1) × (place_after from (length v.old) map ≤ length s.now) }
+    ensures { (v.new ≡ values_as (of_bits binary32) v.old map (drop from s.now)) × (result ≡ place_after from (length v.old) map) }
 {
-    if map == all {
-        read_all(s, from, v)
-    } else {
-        read_floats(s, from, map, v)
+    if map != all {
+        return read_values(s, from, map, v);
     }
+    read_all(&s[from..], v);
+    from + 4 * v.len()
 }

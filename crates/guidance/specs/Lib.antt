@@ -1,4 +1,3 @@
--- Document 01, "Guidance": the calls on a guidance. `Code` has the code's own steps.
+-- Document 01, "Guidance": the calls on a guidance.
 pub mod Plane
 pub mod Promises
-pub mod Code

@@ -1,26 +1,25 @@
 -- The calls on a guidance, plane.rs. Definitions only.
-use Rattle.std.specs.Prelude.{ℕ, Bool, true, false, cond, not, ◌&&◌, List, [], ◌∷◌, ◌++◌, eqb, Float}
+use Rattle.std.specs.Prelude.{ℕ, Bool, true, false, cond, not, ◌&&◌, List, [], ◌∷◌, ◌++◌, eqb, Float, Option, Some, None, Result, Ok, Err}
 use Rattle.std.specs.Float.Ieee as Ieee
 use Rattle.std.specs.Float.Ieee.{neg}
+use Rattle.refusals.specs.Numbers.{number}
+use Rattle.refusals.specs.declared.Refusal.{Refusal}
+use Rattle.refusals.specs.declared.Refusal.TheVariants as reason
 use Rattle.arithmetic.specs.Constants.{◌+ᶠ◌, ◌-ᶠ◌, ◌·ᶠ◌, n0}
 use Rattle.arithmetic.specs.Order.{least, greatest, clamp, finite, choose}
 use Rattle.arithmetic.specs.declared.vector.Vec2.{Vec2}
 use Rattle.laws.specs.Config.{check_positive, validate, default}
 use Rattle.laws.specs.Math.{clamp_symmetric, saturate_unit, saturate_throttle}
-use Rattle.laws.specs.Types.{valid_airspeed}
+use Rattle.laws.specs.Types.{valid_airspeed, north_east}
 use Rattle.laws.specs.Navigation.{finite_leg, lateral_accel, idle, cross_track, bank_for_accel, pi_step}
 use Rattle.laws.specs.Tecs.{reset, all_inputs_finite, hold, energy_step, flag}
 use Rattle.laws.specs.declared.config.PlaneGuidanceConfig.{PlaneGuidanceConfig}
+use Rattle.laws.specs.declared.config.InvalidConfig.{InvalidConfig}
 use Rattle.laws.specs.declared.navigation.PiLoop.{PiLoop}
 use Rattle.laws.specs.declared.tecs.Tecs.{Tecs}
 use Rattle.laws.specs.declared.tecs.Limits.{Limits}
 use Rattle.laws.specs.declared.tecs.Inputs.{Inputs}
 use Rattle.laws.specs.declared.tecs.TecsResult.{TecsResult}
-use Rattle.laws.specs.declared.types.Vec3.{Vec3}
-use Rattle.laws.specs.declared.types.OptionF32.{OptionF32}
-use Rattle.laws.specs.declared.types.OptionF32.TheVariants.{None, Some}
-use Rattle.laws.specs.declared.types.OptionVec2.{OptionVec2}
-use Rattle.laws.specs.declared.types.OptionVec2.TheVariants as Leg
 use Rattle.laws.specs.declared.types.AttitudeCommand.{AttitudeCommand}
 use Rattle.laws.specs.declared.types.RateCommand.{RateCommand}
 use Rattle.laws.specs.declared.types.WaypointCommand.{WaypointCommand}
@@ -35,18 +34,14 @@ use Rattle.laws.specs.declared.types.Setpoint.{Setpoint}
 use Rattle.laws.specs.declared.types.Setpoint.TheVariants as Set
 use Rattle.guidance.specs.declared.plane.Former.{Former}
 use Rattle.guidance.specs.declared.plane.PlaneGuidance.{PlaneGuidance}
-use Rattle.guidance.specs.declared.plane.Created.{Created}
-use Rattle.guidance.specs.declared.plane.Created.TheVariants as New
 use Rattle.guidance.specs.declared.plane.LateralLaw.{LateralLaw}
 use Rattle.guidance.specs.declared.plane.LateralLaw.TheVariants.{Track, Loiter, Idle}
 use Rattle.guidance.specs.declared.plane.VerticalLaw.{VerticalLaw}
 use Rattle.guidance.specs.declared.plane.VerticalLaw.TheVariants.{Energy, Hold, Fallback}
 use Rattle.guidance.specs.declared.plane.Steered.{Steered}
 use Rattle.guidance.specs.declared.plane.Answer.{Answer}
-use Rattle.guidance.specs.declared.plane.Answer.TheVariants.{Refused, Commanded, Waypoint}
+use Rattle.guidance.specs.declared.plane.Answer.TheVariants.{Commanded, Waypoint}
 use Rattle.guidance.specs.declared.plane.Guided.{Guided}
-use Rattle.guidance.specs.declared.plane.Configured.{Configured}
-use Rattle.guidance.specs.declared.plane.TakenBack.{TakenBack}
 use Rattle.guidance.specs.declared.plane.Vertical.{Vertical}
 use Rattle.guidance.specs.declared.plane.FlightMode.TheVariants as Mode
 use Rattle.guidance.specs.declared.plane.ModeRefusal.TheVariants as Why
@@ -71,9 +66,13 @@ no_former = record { kept = 0; config = default }
 unfoldable pub fresh : PlaneGuidanceConfig → PlaneGuidance
 fresh c = record { config = c; requested = 1; altitude = no_integral; tecs = reset; former = no_former }
 
--- new: number 1 with its field, and no guidance, or a fresh guidance
-unfoldable pub created : PlaneGuidanceConfig → Created
-created c = cond (eqb (validate c) 0) (New.Made (fresh c)) (New.Refused (validate c))
+-- this guidance where the configuration is valid, else number 1 with the failing field
+abbrev pub if_valid : PlaneGuidanceConfig → PlaneGuidance → Result PlaneGuidance InvalidConfig
+if_valid c g = cond (eqb (validate c) 0) (Ok g) (Err (record { field = validate c }))
+
+-- new
+unfoldable pub created : PlaneGuidanceConfig → Result PlaneGuidance InvalidConfig
+created c = if_valid c (fresh c)
 
 -- the energy state and the altitude loop as `new` makes them, with this requested regime
 unfoldable pub cleared : PlaneGuidance → ℕ → PlaneGuidance
@@ -93,21 +92,21 @@ with_config g c = record {
   former = record { kept = 1; config = g.config };
 }
 
--- set-configuration: number 1 keeps configuration and state
-unfoldable pub configured : PlaneGuidance → PlaneGuidanceConfig → Configured
-configured g c = record { field = validate c; guidance = cond (eqb (validate c) 0) (with_config g c) g }
+-- set-configuration
+unfoldable pub configured : PlaneGuidance → PlaneGuidanceConfig → Result PlaneGuidance InvalidConfig
+configured g c = if_valid c (with_config g c)
 
 -- the kept configuration in force again, and forgotten
 unfoldable pub restored : PlaneGuidance → PlaneGuidance
 restored g = record { config = g.former.config; requested = g.requested; altitude = g.altitude; tecs = g.tecs; former = no_former }
 
--- take-back: number 14 where no change is left to take back, which keeps everything
-unfoldable pub taken_back : PlaneGuidance → TakenBack
-taken_back g = cond (flag g.former.kept) (record { refusal = 0; guidance = restored g }) (record { refusal = 14; guidance = g })
+-- take-back: the guidance after it, or number 14 where no change is left to take back
+unfoldable pub taken_back : PlaneGuidance → Result PlaneGuidance Refusal
+taken_back g = cond (flag g.former.kept) (Ok (restored g)) (Err reason.NothingToTakeBack)
 
 -- flight_mode, as FlightModeReport::plane_only: always plane, and a copter request is unsupported
 unfoldable pub flight_mode : PlaneGuidance → FlightModeReport
-flight_mode g = record { mode = Mode.Plane; refusal = cond (flag g.requested) Why.None Why.Unsupported }
+flight_mode g = record { mode = Mode.Plane; refusal = cond (flag g.requested) None (Some Why.Unsupported) }
 
 -- K12's report, whether the stall guard stands: underspeed
 abbrev pub stall_guard : PlaneGuidance → Bool
@@ -153,22 +152,19 @@ is_waypoint (Input.AbsoluteRate k) = false
 -- ---- a waypoint's laws, by the call's own numbers
 
 -- a number where there is one, else +0
-abbrev pub or_zero : OptionF32 → Float
+abbrev pub or_zero : Option Float → Float
 or_zero None = n0
 or_zero (Some x) = x
 
-abbrev pub present : OptionF32 → Bool
+abbrev pub present : Option Float → Bool
 present None = false
 present (Some x) = true
 
-abbrev pub north_east : Vec3 → Vec2
-north_east v = record { x = v.x; y = v.y }
+abbrev pub leg_law : Option Vec2 → LateralLaw
+leg_law None = Loiter
+leg_law (Some leg) = Track
 
-abbrev pub leg_law : OptionVec2 → LateralLaw
-leg_law Leg.None = Loiter
-leg_law (Leg.Some leg) = Track
-
-abbrev pub lateral_of : Bool → OptionVec2 → LateralLaw
+abbrev pub lateral_of : Bool → Option Vec2 → LateralLaw
 lateral_of idle leg = cond idle Idle (leg_law leg)
 
 -- idle (document 02, K1); else track (finite leg) or loiter
@@ -199,7 +195,7 @@ vertical_law dt w s = cond (on_energy_path w s) (cond (all_inputs_finite (inputs
 
 -- ---- the limits of a waypoint
 
-abbrev pub capped : Float → OptionF32 → Float
+abbrev pub capped : Float → Option Float → Float
 capped limit None = limit
 capped limit (Some cap) = least limit cap
 
@@ -208,7 +204,7 @@ capped limit (Some cap) = least limit cap
 unfoldable pub top_thrust : PlaneGuidanceConfig → Float
 top_thrust c = greatest c.max_thrust c.min_thrust
 
-unfoldable pub limits_of : PlaneGuidanceConfig → OptionF32 → Limits
+unfoldable pub limits_of : PlaneGuidanceConfig → Option Float → Limits
 limits_of c cap = record {
   pitch_up_rad = capped c.max_pitch_up_rad cap;
   pitch_down_rad = capped c.max_pitch_down_rad cap;
@@ -247,7 +243,7 @@ unfoldable pub height_error : WaypointCommand → VehicleState → Float
 height_error w s = w.altitude_m -ᶠ s.position_m.z
 
 -- fallback: pitch holds the altitude, thrust is cruise and a climb's share; the energy state is cleared
-unfoldable pub fallback : PlaneGuidanceConfig → PiLoop → Float → WaypointCommand → VehicleState → OptionF32 → Vertical
+unfoldable pub fallback : PlaneGuidanceConfig → PiLoop → Float → WaypointCommand → VehicleState → Option Float → Vertical
 fallback c altitude dt w s cap =
     let limits = limits_of c cap in
     let trim = c.trim_pitch_rad in
@@ -264,7 +260,7 @@ fallback c altitude dt w s cap =
     }
 
 -- what the vertical law would answer and store
-unfoldable pub vertical : VerticalLaw → PlaneGuidanceConfig → PiLoop → Tecs → Float → WaypointCommand → VehicleState → OptionF32 → Vertical
+unfoldable pub vertical : VerticalLaw → PlaneGuidanceConfig → PiLoop → Tecs → Float → WaypointCommand → VehicleState → Option Float → Vertical
 vertical Energy c altitude tecs dt w s cap = on_path (energy_step tecs c.tecs (limits_of c cap) (inputs dt w s))
 vertical Hold c altitude tecs dt w s cap = on_path (hold tecs (limits_of c cap))
 vertical Fallback c altitude tecs dt w s cap = fallback c altitude dt w s cap
@@ -286,41 +282,41 @@ abbrev pub bad_time_step : Float → Bool
 bad_time_step dt = not (check_positive dt)
 
 -- Number 3: the cap is below 0; -0 passes, NaN means no cap.
-abbrev pub bad_cap : OptionF32 → Bool
+abbrev pub bad_cap : Option Float → Bool
 bad_cap None = false
 bad_cap (Some cap) = Ieee.lt cap n0
 
 -- a refusal returns the guidance as it was
-abbrev pub refusal : PlaneGuidance → ℕ → Guided
-refusal g n = record { guidance = g; answer = Refused n }
+abbrev pub refusal : PlaneGuidance → Refusal → Guided
+refusal g why = record { guidance = g; answer = Err why }
 
 -- ---- guide
 
 -- an accepted command other than a waypoint leaves the energy state and the altitude loop as `new` makes them
 unfoldable pub commanded : PlaneGuidance → FlightRegime → Setpoint → Guided
-commanded g regime setpoint = record { guidance = cleared g (regime_number regime); answer = Commanded setpoint }
+commanded g regime setpoint = record { guidance = cleared g (regime_number regime); answer = Ok (Commanded setpoint) }
 
 abbrev pub flown : PlaneGuidance → FlightRegime → Steered → VerticalLaw → Vertical → Guided
 flown g regime lateral law v = record {
   guidance = record { config = g.config; requested = regime_number regime; altitude = v.altitude; tecs = v.tecs; former = g.former };
-  answer = Waypoint (record {
+  answer = Ok (Waypoint (record {
     setpoint = Set.Plane lateral.roll_rad v.pitch_rad v.thrust;
     laws = record { lateral = lateral.law; vertical = law };
     cross_track_m = lateral.cross_track_m;
-  });
+  }));
 }
 
 -- Number 4: pitch, thrust or a number that would be stored would not be finite.
 abbrev pub settled : PlaneGuidance → FlightRegime → Steered → VerticalLaw → Vertical → Guided
-settled g regime lateral law v = cond (all_finite v) (flown g regime lateral law v) (refusal g 4)
+settled g regime lateral law v = cond (all_finite v) (flown g regime lateral law v) (refusal g reason.NotFinite)
 
-unfoldable pub waypoint : PlaneGuidance → Float → FlightRegime → WaypointCommand → VehicleState → OptionF32 → Guided
+unfoldable pub waypoint : PlaneGuidance → Float → FlightRegime → WaypointCommand → VehicleState → Option Float → Guided
 waypoint g dt regime w s cap =
     let law = vertical_law dt w s in
-    cond (bad_cap cap) (refusal g 3)
+    cond (bad_cap cap) (refusal g reason.PitchCap)
     (settled g regime (steered g.config w s) law (vertical law g.config g.altitude g.tecs dt w s cap))
 
-unfoldable pub obeyed : PlaneGuidance → Float → FlightRegime → ControlInput → VehicleState → OptionF32 → Guided
+unfoldable pub obeyed : PlaneGuidance → Float → FlightRegime → ControlInput → VehicleState → Option Float → Guided
 obeyed g dt regime (Input.Attitude k) s cap = commanded g regime (sticks g.config k)
 obeyed g dt regime (Input.Rate k) s cap = commanded g regime (rates g.config k)
 obeyed g dt regime (Input.Waypoint w) s cap = waypoint g dt regime w s cap
@@ -329,23 +325,22 @@ obeyed g dt regime Input.Land s cap = commanded g regime neutral
 obeyed g dt regime (Input.AbsoluteRate k) s cap = commanded g regime (absolute_rate k)
 
 -- guide_capped, the reference answer
-unfoldable pub guided : PlaneGuidance → Float → FlightRegime → ControlInput → VehicleState → OptionF32 → Guided
-guided g dt regime input s cap = cond (bad_time_step dt) (refusal g 2) (obeyed g dt regime input s cap)
+unfoldable pub guided : PlaneGuidance → Float → FlightRegime → ControlInput → VehicleState → Option Float → Guided
+guided g dt regime input s cap = cond (bad_time_step dt) (refusal g reason.TimeStep) (obeyed g dt regime input s cap)
 
 -- ---- document 01's number and values of each answer
 
 -- the refusal's number, or 0
-abbrev pub refusal_number : Answer → ℕ
-refusal_number (Refused n) = n
-refusal_number (Commanded s) = 0
-refusal_number (Waypoint a) = 0
+abbrev pub refusal_number : Result Answer Refusal → ℕ
+refusal_number (Ok a) = 0
+refusal_number (Err why) = number why
 
 -- roll, pitch, thrust; or roll, pitch, yaw, thrust
 abbrev pub setpoint_values : Setpoint → List Float
 setpoint_values (Set.Plane roll pitch thrust) = roll ∷ pitch ∷ thrust ∷ []
 setpoint_values (Set.PlaneRate roll pitch yaw thrust) = roll ∷ pitch ∷ yaw ∷ thrust ∷ []
 
-abbrev pub answer_values : Answer → List Float
-answer_values (Refused n) = []
-answer_values (Commanded s) = setpoint_values s
-answer_values (Waypoint a) = setpoint_values a.setpoint ++ (a.cross_track_m ∷ [])
+abbrev pub answer_values : Result Answer Refusal → List Float
+answer_values (Err why) = []
+answer_values (Ok (Commanded s)) = setpoint_values s
+answer_values (Ok (Waypoint a)) = setpoint_values a.setpoint ++ (a.cross_track_m ∷ [])

@@ -1,25 +1,17 @@
 // The setpoints of the commands other than a waypoint.
 ghost use Rattle.std.specs.Prelude.{◌≡◌};
 ghost use Rattle.guidance.specs.Plane as spec;
-ghost use Rattle.guidance.specs.Code.Orders as orders;
 
 use arithmetic::order::choose;
 use laws::config::PlaneGuidanceConfig;
 use laws::math::{saturate_throttle, saturate_unit};
 use laws::types::{
-    AbsoluteAttitudeCommand, AbsoluteRateCommand, AttitudeCommand, ControlInput, RateCommand,
-    Setpoint, WaypointCommand,
+    AbsoluteAttitudeCommand, AbsoluteRateCommand, AttitudeCommand, RateCommand, Setpoint,
 };
 
-// What a command asks: a setpoint that it gives itself, or a waypoint to fly.
-#[derive(Clone, Copy)]
-pub enum Order {
-    Setpoint(Setpoint),
-    Waypoint(WaypointCommand),
-}
-
-// Sticks to bank and pitch, pitch asymmetric.
-fn sticks(config: PlaneGuidanceConfig, command: AttitudeCommand) -> Setpoint
+// Sticks to bank and pitch, whose limits differ up and down.
+#[tactic(auto, unfolding(crate::specs::Plane::sticks))]
+pub fn sticks(config: PlaneGuidanceConfig, command: AttitudeCommand) -> Setpoint
     ensures { result ≡ spec.sticks config command }
 {
     let pitch = saturate_unit(command.pitch);
@@ -35,7 +27,9 @@ fn sticks(config: PlaneGuidanceConfig, command: AttitudeCommand) -> Setpoint
     }
 }
 
-fn rates(config: PlaneGuidanceConfig, command: RateCommand) -> Setpoint
+// Sticks to body rates.
+#[tactic(auto, unfolding(crate::specs::Plane::rates))]
+pub fn rates(config: PlaneGuidanceConfig, command: RateCommand) -> Setpoint
     ensures { result ≡ spec.rates config command }
 {
     Setpoint::PlaneRate {
@@ -47,7 +41,8 @@ fn rates(config: PlaneGuidanceConfig, command: RateCommand) -> Setpoint
 }
 
 // Angles pass unchecked, NaN included.
-fn absolute_attitude(command: AbsoluteAttitudeCommand) -> Setpoint
+#[tactic(auto, unfolding(crate::specs::Plane::absolute_attitude))]
+pub fn absolute_attitude(command: AbsoluteAttitudeCommand) -> Setpoint
     ensures { result ≡ spec.absolute_attitude command }
 {
     Setpoint::Plane {
@@ -58,7 +53,8 @@ fn absolute_attitude(command: AbsoluteAttitudeCommand) -> Setpoint
 }
 
 // Rates pass unchecked, NaN included.
-fn absolute_rate(command: AbsoluteRateCommand) -> Setpoint
+#[tactic(auto, unfolding(crate::specs::Plane::absolute_rate))]
+pub fn absolute_rate(command: AbsoluteRateCommand) -> Setpoint
     ensures { result ≡ spec.absolute_rate command }
 {
     Setpoint::PlaneRate {
@@ -70,25 +66,12 @@ fn absolute_rate(command: AbsoluteRateCommand) -> Setpoint
 }
 
 // Level, no thrust.
-fn neutral() -> Setpoint
+pub fn neutral() -> Setpoint
     ensures { result ≡ spec.neutral }
 {
     Setpoint::Plane {
         roll_rad: 0.0,
         pitch_rad: 0.0,
         thrust: 0.0,
-    }
-}
-
-pub fn order_of(config: PlaneGuidanceConfig, input: ControlInput) -> Order
-    ensures { result ≡ orders.order_of config input }
-{
-    match input {
-        ControlInput::Attitude(k) => Order::Setpoint(sticks(config, k)),
-        ControlInput::Rate(k) => Order::Setpoint(rates(config, k)),
-        ControlInput::Waypoint(w) => Order::Waypoint(w),
-        ControlInput::AbsoluteAttitude(k) => Order::Setpoint(absolute_attitude(k)),
-        ControlInput::Land => Order::Setpoint(neutral()),
-        ControlInput::AbsoluteRate(k) => Order::Setpoint(absolute_rate(k)),
     }
 }

@@ -1,23 +1,23 @@
 // The calls on a guidance: it goes in by value and comes back with the answer.
 ghost use Rattle.std.specs.Prelude.{◌≡◌};
 ghost use Rattle.laws.specs.declared.types.ControlInput.TheVariants.{Waypoint};
-ghost use Rattle.laws.specs.declared.types.OptionF32.TheVariants.{None};
 ghost use Rattle.guidance.specs.Plane as spec;
 ghost use Rattle.guidance.specs.Promises as contract;
 
-use crate::commands::{Order, order_of};
+use crate::commands::{absolute_attitude, absolute_rate, neutral, rates, sticks};
 use crate::plane::{
-    Answer, Configured, Created, FlightMode, FlightModeReport, Former, Guided, ModeRefusal,
-    PlaneGuidance, TakenBack,
+    Answer, FlightMode, FlightModeReport, Former, Guided, ModeRefusal, PlaneGuidance, WaypointCall,
 };
-use crate::waypoint::{refusal, regime_number, waypoint, waypoint_roll_first};
+use crate::waypoint::{refusal, regime_number, waypoint};
 use arithmetic::order::is_finite;
-use laws::config::{PlaneGuidanceConfig, default, validate};
+use laws::config::{InvalidConfig, PlaneGuidanceConfig, default, validate};
 use laws::navigation::PiLoop;
 use laws::tecs::reset;
-use laws::types::{ControlInput, FlightRegime, OptionF32, Setpoint, VehicleState, WaypointCommand};
+use laws::types::{ControlInput, FlightRegime, Setpoint, VehicleState, WaypointCommand};
+use refusals::Refusal;
 
 // No change to take back.
+#[tactic(auto, unfolding(crate::specs::Plane::no_former))]
 fn no_former() -> Former
     ensures { result ≡ spec.no_former }
 {
@@ -28,100 +28,120 @@ fn no_former() -> Former
 }
 
 // The energy state and the altitude loop as `new` makes them.
+#[tactic(auto, unfolding(crate::specs::Plane::cleared))]
 fn cleared(g: PlaneGuidance, requested: u32) -> PlaneGuidance
     ensures { result ≡ spec.cleared g requested }
 {
-    let config = g.config;
-    let altitude = PiLoop { integral: 0.0 };
-    let former = g.former;
     PlaneGuidance {
-        config,
         requested,
-        altitude,
+        altitude: PiLoop { integral: 0.0 },
         tecs: reset(),
-        former,
+        ..g
     }
 }
 
 // The navigation loops are idle: they are cleared, so that waypoint flight starts fresh.
+#[tactic(auto, unfolding(crate::specs::Plane::commanded))]
 fn commanded(g: PlaneGuidance, regime: FlightRegime, setpoint: Setpoint) -> Guided
     ensures { result ≡ spec.commanded g regime setpoint }
 {
     Guided {
         guidance: cleared(g, regime_number(regime)),
-        answer: Answer::Commanded(setpoint),
+        answer: Ok(Answer::Commanded(setpoint)),
     }
 }
 
+#[tactic(auto, unfolding(crate::specs::Plane::obeyed))]
 fn obeyed(
     g: PlaneGuidance,
     dt: f32,
     regime: FlightRegime,
     input: ControlInput,
     state: VehicleState,
-    pitch_cap_rad: OptionF32,
+    cap: Option<f32>,
 ) -> Guided
-    ensures { result ≡ spec.obeyed g dt regime input state pitch_cap_rad }
+    ensures { result ≡ spec.obeyed g dt regime input state cap }
 {
-    let config = g.config;
-    let order = order_of(config, input);
-    match order {
-        Order::Setpoint(setpoint) => commanded(g, regime, setpoint),
-        Order::Waypoint(w) => waypoint(g, dt, regime, w, state, pitch_cap_rad),
-    }
+    let setpoint = match input {
+        ControlInput::Attitude(command) => sticks(g.config, command),
+        ControlInput::Rate(command) => rates(g.config, command),
+        ControlInput::Waypoint(command) => {
+            return waypoint::<false>(
+                g,
+                WaypointCall {
+                    dt,
+                    regime,
+                    command,
+                    state,
+                    cap,
+                },
+            );
+        }
+        ControlInput::AbsoluteAttitude(command) => absolute_attitude(command),
+        ControlInput::Land => neutral(),
+        ControlInput::AbsoluteRate(command) => absolute_rate(command),
+    };
+    commanded(g, regime, setpoint)
 }
 
 impl PlaneGuidance {
-    pub fn new(config: PlaneGuidanceConfig) -> Created
+    pub fn new(config: PlaneGuidanceConfig) -> Result<PlaneGuidance, InvalidConfig>
         ensures { contract.Creates config result }
     {
-        let field = validate(config);
-        if field == 0 {
-            Created::Made(PlaneGuidance {
-                config,
-                requested: 1,
-                altitude: PiLoop { integral: 0.0 },
-                tecs: reset(),
-                former: no_former(),
-            })
-        } else {
-            Created::Refused(field)
-        }
+        validate(config)?;
+        Ok(PlaneGuidance {
+            config,
+            requested: 1,
+            altitude: PiLoop { integral: 0.0 },
+            tecs: reset(),
+            former: no_former(),
+        })
     }
 
     // The reference answer: a waypoint's pitch is held within the cap either way, where there is one.
+    #[tactic(auto, using(crate::proofs::plane::Contracts::guides), unfolding(crate::specs::Plane::guided))]
     pub fn guide_capped(
         self,
         dt: f32,
         regime: FlightRegime,
         input: ControlInput,
         state: VehicleState,
-        pitch_cap_rad: OptionF32,
+        pitch_cap_rad: Option<f32>,
     ) -> Guided
         ensures { contract.Guides self dt regime input state pitch_cap_rad result }
     {
         if (dt > 0.0) & is_finite(dt) {
             obeyed(self, dt, regime, input, state, pitch_cap_rad)
         } else {
-            refusal(self, 2)
+            refusal(self, Refusal::TimeStep)
         }
     }
 
     // A waypoint's `guide_capped` for steps that follow each other, as a drawn path's do.
+    #[tactic(auto, using(crate::proofs::plane::Contracts::guides), unfolding(crate::specs::Plane::guided))]
     pub fn guide_step(
         self,
         dt: f32,
         regime: FlightRegime,
         w: WaypointCommand,
         state: VehicleState,
-        pitch_cap_rad: OptionF32,
+        pitch_cap_rad: Option<f32>,
     ) -> Guided
         ensures { contract.Guides self dt regime (Waypoint w) state pitch_cap_rad result }
     {
         if (dt > 0.0) & is_finite(dt) {
-            waypoint_roll_first(self, dt, regime, w, state, pitch_cap_rad)
+            waypoint::<true>(
+                self,
+                WaypointCall {
+                    dt,
+                    regime,
+                    command: w,
+                    state,
+                    cap: pitch_cap_rad,
+                },
+            )
         } else {
-            refusal(self, 2)
+            refusal(self, Refusal::TimeStep)
         }
     }
 
@@ -134,86 +154,61 @@ impl PlaneGuidance {
     ) -> Guided
         ensures { contract.Guides self dt regime input state None result }
     {
-        self.guide_capped(dt, regime, input, state, OptionF32::None)
+        self.guide_capped(dt, regime, input, state, None)
     }
 
     // Clears the navigation loops: integrals, demands and underspeed.
+    #[tactic(auto, unfolding(crate::specs::Plane::primed))]
     pub fn prime(self) -> PlaneGuidance
         ensures { result ≡ spec.primed self }
     {
         cleared(self, self.requested)
     }
 
-    // An accepted change keeps the configuration that it replaces, to be taken back.
-    pub fn set_config(self, config: PlaneGuidanceConfig) -> Configured
+    // The guidance after the change, which keeps the configuration that it replaces, to be taken back. Refused, the caller's stays.
+    #[tactic(auto, using(crate::proofs::plane::Contracts::accepted_config), unfolding(crate::specs::Plane::configured, crate::specs::Plane::with_config))]
+    pub fn set_config(self, config: PlaneGuidanceConfig) -> Result<PlaneGuidance, InvalidConfig>
         ensures { result ≡ spec.configured self config }
     {
-        let field = validate(config);
-        if field == 0 {
-            let altitude = self.altitude;
-            let tecs = self.tecs;
-            let before = self.config;
-            Configured {
-                field,
-                guidance: PlaneGuidance {
-                    config,
-                    requested: self.requested,
-                    altitude,
-                    tecs,
-                    former: Former {
-                        kept: 1,
-                        config: before,
-                    },
-                },
-            }
-        } else {
-            Configured {
-                field,
-                guidance: self,
-            }
-        }
+        validate(config)?;
+        Ok(PlaneGuidance {
+            config,
+            former: Former {
+                kept: 1,
+                config: self.config,
+            },
+            ..self
+        })
     }
 
     // Document 02, K11: the configuration before the last accepted change is in force again and is forgotten; the integrals stay.
-    pub fn take_back(self) -> TakenBack
+    #[tactic(auto, unfolding(crate::specs::Plane::taken_back, crate::specs::Plane::restored))]
+    pub fn take_back(self) -> Result<PlaneGuidance, Refusal>
         ensures { result ≡ spec.taken_back self }
     {
         if self.former.kept == 0 {
-            TakenBack {
-                refusal: 14,
-                guidance: self,
-            }
-        } else {
-            let config = self.former.config;
-            let altitude = self.altitude;
-            let tecs = self.tecs;
-            TakenBack {
-                refusal: 0,
-                guidance: PlaneGuidance {
-                    config,
-                    requested: self.requested,
-                    altitude,
-                    tecs,
-                    former: no_former(),
-                },
-            }
+            return Err(Refusal::NothingToTakeBack);
         }
+        Ok(PlaneGuidance {
+            config: self.former.config,
+            former: no_former(),
+            ..self
+        })
     }
 
     // As FlightModeReport::plane_only: always plane; a copter request is refused as unsupported.
+    #[tactic(auto, unfolding(crate::specs::Plane::flight_mode))]
     pub fn flight_mode(self) -> FlightModeReport
         ensures { result ≡ spec.flight_mode self }
     {
-        if self.requested == 0 {
-            FlightModeReport {
-                mode: FlightMode::Plane,
-                refusal: ModeRefusal::Unsupported,
-            }
+        let refusal = if self.requested == 0 {
+            Some(ModeRefusal::Unsupported)
         } else {
-            FlightModeReport {
-                mode: FlightMode::Plane,
-                refusal: ModeRefusal::None,
-            }
+            None
+        };
+        FlightModeReport {
+            mode: FlightMode::Plane,
+            refusal,
         }
     }
 

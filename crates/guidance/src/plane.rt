@@ -2,7 +2,10 @@
 use laws::config::PlaneGuidanceConfig;
 use laws::navigation::PiLoop;
 use laws::tecs::Tecs;
-use laws::types::Setpoint;
+use laws::types::{FlightRegime, Setpoint, VehicleState, WaypointCommand};
+use refusals::Refusal;
+
+// Stored words, 0 or not 0, stay numbers in these two structs: a host in C holds them, and may hold any number.
 
 // Document 02, K11: the configuration before the last accepted change. `kept` is 0 where there is none to take back; the numbers
 // are then the default configuration's.
@@ -24,11 +27,14 @@ pub struct PlaneGuidance {
     pub former: Former,
 }
 
-// What `new` gives: number 1 with the failing field, or a guidance.
+// A waypoint call: what `guide_step` takes besides the guidance.
 #[derive(Clone, Copy)]
-pub enum Created {
-    Refused(u32),
-    Made(PlaneGuidance),
+pub struct WaypointCall {
+    pub dt: f32,
+    pub regime: FlightRegime,
+    pub command: WaypointCommand,
+    pub state: VehicleState,
+    pub cap: Option<f32>,
 }
 
 #[derive(Clone, Copy)]
@@ -60,32 +66,18 @@ pub struct WaypointAnswer {
     pub cross_track_m: f32,
 }
 
-// The answer to a guide call: refused with its number, the setpoint of a command other than a waypoint, or a waypoint's.
+// The answer to an accepted guide call: the setpoint of a command other than a waypoint, or a waypoint's.
 #[derive(Clone, Copy)]
 pub enum Answer {
-    Refused(u32),
     Commanded(Setpoint),
     Waypoint(WaypointAnswer),
 }
 
+// The guidance after a guide call, which a refusal leaves as it was, and the call's answer.
 #[derive(Clone, Copy)]
 pub struct Guided {
     pub guidance: PlaneGuidance,
-    pub answer: Answer,
-}
-
-// What `set_config` gives: 0 or the failing field, and the guidance after it.
-#[derive(Clone, Copy)]
-pub struct Configured {
-    pub field: u32,
-    pub guidance: PlaneGuidance,
-}
-
-// What `take_back` gives: 0 or 14, and the guidance after it.
-#[derive(Clone, Copy)]
-pub struct TakenBack {
-    pub refusal: u32,
-    pub guidance: PlaneGuidance,
+    pub answer: Result<Answer, Refusal>,
 }
 
 // What a lateral law answers.
@@ -113,12 +105,11 @@ pub enum FlightMode {
 
 #[derive(Clone, Copy)]
 pub enum ModeRefusal {
-    None,
     Unsupported,
 }
 
 #[derive(Clone, Copy)]
 pub struct FlightModeReport {
     pub mode: FlightMode,
-    pub refusal: ModeRefusal,
+    pub refusal: Option<ModeRefusal>,
 }

@@ -3,93 +3,73 @@ ghost use Rattle.std.specs.Prelude.{◌≡◌};
 ghost use Rattle.guidance.specs.Plane as spec;
 
 use crate::plane::{
-    Answer, Guided, LateralLaw, Laws, PlaneGuidance, Steered, Vertical, VerticalLaw, WaypointAnswer,
+    Answer, Guided, LateralLaw, Laws, PlaneGuidance, Steered, Vertical, VerticalLaw,
+    WaypointAnswer, WaypointCall,
 };
 use arithmetic::order::{clamp, greatest, least};
 use arithmetic::vector::Vec2;
 use laws::config::PlaneGuidanceConfig;
 use laws::math::clamp_symmetric;
 use laws::navigation::{PiLoop, bank_for_accel_rad, finite_leg, lateral_accel_mps2, pi_step};
-use laws::tecs::{Inputs, Limits, Tecs, TecsResult, all_inputs_finite, energy_step, hold, reset};
+use laws::tecs::{Inputs, Limits, TecsResult, all_inputs_finite, energy_step, hold, reset};
 use laws::types::{
-    FlightRegime, OptionF32, OptionVec2, Setpoint, Vec3, VehicleState, WaypointCommand,
-    valid_airspeed_mps,
+    FlightRegime, Setpoint, VehicleState, WaypointCommand, north_east, valid_airspeed_mps,
 };
+use refusals::Refusal;
 
-// 0 copter, 1 plane.
+// 0 copter, 1 plane: the order in which the regimes are declared.
 pub fn regime_number(regime: FlightRegime) -> u32
     ensures { result ≡ spec.regime_number regime }
 {
-    match regime {
-        FlightRegime::Copter => 0,
-        FlightRegime::Plane => 1,
-    }
+    regime as u32
 }
 
-fn or_zero(x: OptionF32) -> f32
-    ensures { result ≡ spec.or_zero x }
-{
-    match x {
-        OptionF32::None => 0.0,
-        OptionF32::Some(n) => n,
-    }
-}
-
-fn present(x: OptionF32) -> bool
-    ensures { result ≡ spec.present x }
-{
-    match x {
-        OptionF32::None => false,
-        OptionF32::Some(n) => true,
-    }
-}
-
-fn bad_cap(cap: OptionF32) -> bool
+fn bad_cap(cap: Option<f32>) -> bool
     ensures { result ≡ spec.bad_cap cap }
 {
-    match cap {
-        OptionF32::None => false,
-        OptionF32::Some(n) => n < 0.0,
-    }
+    cap.is_some_and(|n| n < 0.0)
 }
 
-fn lateral_of(idle: bool, leg: OptionVec2) -> LateralLaw
+fn lateral_of(idle: bool, leg: Option<Vec2>) -> LateralLaw
     ensures { result ≡ spec.lateral_of idle leg }
 {
     if idle {
-        return LateralLaw::Idle;
-    }
-    match leg {
-        OptionVec2::None => LateralLaw::Loiter,
-        OptionVec2::Some(v) => LateralLaw::Track,
+        LateralLaw::Idle
+    } else if leg.is_some() {
+        LateralLaw::Track
+    } else {
+        LateralLaw::Loiter
     }
 }
 
+#[tactic(auto, unfolding(crate::specs::Plane::on_energy_path))]
 fn on_energy_path(w: WaypointCommand, state: VehicleState) -> bool
     ensures { result ≡ spec.on_energy_path w state }
 {
-    (w.cruise_speed_mps > 0.0) & present(valid_airspeed_mps(state))
+    (w.cruise_speed_mps > 0.0) & valid_airspeed_mps(state).is_some()
 }
 
-fn inputs_of(dt: f32, w: WaypointCommand, state: VehicleState) -> Inputs
-    ensures { result ≡ spec.inputs dt w state }
+#[tactic(auto, unfolding(crate::specs::Plane::inputs))]
+fn inputs_of(call: WaypointCall) -> Inputs
+    ensures { result ≡ spec.inputs call.dt call.command call.state }
 {
     Inputs {
-        dt,
-        altitude_m: w.altitude_m,
-        airspeed_target_mps: w.cruise_speed_mps,
-        airspeed_mps: or_zero(valid_airspeed_mps(state)),
-        height_m: state.position_m.z,
-        climb_mps: state.velocity_mps.z,
-        roll_rad: state.roll_rad,
+        dt: call.dt,
+        altitude_m: call.command.altitude_m,
+        airspeed_target_mps: call.command.cruise_speed_mps,
+        airspeed_mps: valid_airspeed_mps(call.state).unwrap_or(0.0),
+        height_m: call.state.position_m.z,
+        climb_mps: call.state.velocity_mps.z,
+        roll_rad: call.state.roll_rad,
     }
 }
 
-fn vertical_law(dt: f32, w: WaypointCommand, state: VehicleState) -> VerticalLaw
-    ensures { result ≡ spec.vertical_law dt w state }
+#[tactic(auto, unfolding(crate::specs::Plane::vertical_law))]
+fn vertical_law(call: WaypointCall) -> VerticalLaw
+    ensures { result ≡ spec.vertical_law call.dt call.command call.state }
 {
-    if on_energy_path(w, state) {
-        if all_inputs_finite(inputs_of(dt, w, state)) {
+    if on_energy_path(call.command, call.state) {
+        if all_inputs_finite(inputs_of(call)) {
             VerticalLaw::Energy
         } else {
             VerticalLaw::Hold
@@ -100,16 +80,14 @@ fn vertical_law(dt: f32, w: WaypointCommand, state: VehicleState) -> VerticalLaw
 }
 
 // A pitch limit under a cap, where there is one.
-fn capped(limit_rad: f32, cap: OptionF32) -> f32
+fn capped(limit_rad: f32, cap: Option<f32>) -> f32
     ensures { result ≡ spec.capped limit_rad cap }
 {
-    match cap {
-        OptionF32::None => limit_rad,
-        OptionF32::Some(n) => least(limit_rad, n),
-    }
+    cap.map_or(limit_rad, |n| least(limit_rad, n))
 }
 
-fn limits_of(config: PlaneGuidanceConfig, cap: OptionF32) -> Limits
+#[tactic(auto, unfolding(crate::specs::Plane::limits_of, crate::specs::Plane::top_thrust))]
+fn limits_of(config: PlaneGuidanceConfig, cap: Option<f32>) -> Limits
     ensures { result ≡ spec.limits_of config cap }
 {
     Limits {
@@ -122,26 +100,17 @@ fn limits_of(config: PlaneGuidanceConfig, cap: OptionF32) -> Limits
     }
 }
 
-fn north_east(v: Vec3) -> Vec2
-    ensures { result ≡ spec.north_east v }
-{
-    Vec2 { x: v.x, y: v.y }
-}
-
 // The name of the lateral law, by what the law answers, its bank and the distance off its line.
+#[tactic(auto, using(laws::proofs::Idle::idle_is, laws::proofs::OffLine::cross_track_is), unfolding(crate::specs::Plane::lateral_law, crate::specs::Plane::roll_of, crate::specs::Plane::cross_track_of))]
 fn steered(config: PlaneGuidanceConfig, w: WaypointCommand, state: VehicleState) -> Steered
     ensures { result ≡ spec.steered config w state }
 {
-    let leg_mps = w.velocity_mps;
-    let position_m = state.position_m;
-    let velocity_mps = state.velocity_mps;
-    let point_m = w.position_m;
-    let leg = finite_leg(leg_mps);
+    let leg = finite_leg(w.velocity_mps);
     let lateral = lateral_accel_mps2(
         leg,
-        north_east(position_m),
-        north_east(velocity_mps),
-        point_m,
+        north_east(state.position_m),
+        north_east(state.velocity_mps),
+        w.position_m,
         config.loiter_radius_m,
         config.l1_period_s,
         config.l1_damping,
@@ -157,32 +126,26 @@ fn steered(config: PlaneGuidanceConfig, w: WaypointCommand, state: VehicleState)
 fn on_path(o: TecsResult) -> Vertical
     ensures { result ≡ spec.on_path o }
 {
-    let tecs = o.tecs;
     Vertical {
         pitch_rad: o.pitch_rad,
         thrust: o.thrust,
         altitude: PiLoop { integral: 0.0 },
-        tecs,
+        tecs: o.tecs,
     }
 }
 
 // Pitch around trim from the altitude loop, within the pitch limits; cruise thrust plus what a climb needs.
-fn fallback(
-    config: PlaneGuidanceConfig,
-    altitude: PiLoop,
-    dt: f32,
-    w: WaypointCommand,
-    state: VehicleState,
-    cap: OptionF32,
-) -> Vertical
-    ensures { result ≡ spec.fallback config altitude dt w state cap }
+#[tactic(auto, unfolding(crate::specs::Plane::fallback, crate::specs::Plane::height_error))]
+fn fallback(g: &PlaneGuidance, call: WaypointCall) -> Vertical
+    ensures { result ≡ spec.fallback g.now.config g.now.altitude call.dt call.command call.state call.cap }
 {
-    let limits = limits_of(config, cap);
+    let config = g.config;
+    let limits = limits_of(config, call.cap);
     let trim = config.trim_pitch_rad;
     let r = pi_step(
-        altitude,
-        dt,
-        w.altitude_m - state.position_m.z,
+        g.altitude,
+        call.dt,
+        call.command.altitude_m - call.state.position_m.z,
         config.altitude_p,
         config.altitude_i,
         config.altitude_max_integral,
@@ -192,67 +155,54 @@ fn fallback(
     );
     let pitch_rad = trim + r.output;
     let thrust = config.cruise_thrust + config.climb_thrust_per_rad * (pitch_rad - trim);
-    let pi = r.pi;
     Vertical {
         pitch_rad,
         thrust: clamp(thrust, limits.min_thrust, limits.max_thrust),
-        altitude: pi,
+        altitude: r.pi,
         tecs: reset(),
     }
 }
 
 // What the vertical law would answer and store.
-fn vertical_of(
-    law: VerticalLaw,
-    config: PlaneGuidanceConfig,
-    altitude: PiLoop,
-    tecs: Tecs,
-    dt: f32,
-    w: WaypointCommand,
-    state: VehicleState,
-    cap: OptionF32,
-) -> Vertical
-    ensures { result ≡ spec.vertical law config altitude tecs dt w state cap }
+#[tactic(auto, unfolding(crate::specs::Plane::vertical))]
+fn vertical_of(law: VerticalLaw, g: &PlaneGuidance, call: WaypointCall) -> Vertical
+    ensures { result ≡ spec.vertical law g.now.config g.now.altitude g.now.tecs call.dt call.command call.state call.cap }
 {
     match law {
-        VerticalLaw::Energy => {
-            let t = config.tecs;
-            on_path(energy_step(tecs, t, limits_of(config, cap), inputs_of(dt, w, state)))
-        }
-        VerticalLaw::Hold => on_path(hold(tecs, limits_of(config, cap))),
-        VerticalLaw::Fallback => fallback(config, altitude, dt, w, state, cap),
+        VerticalLaw::Energy => on_path(energy_step(
+            g.tecs,
+            g.config.tecs,
+            limits_of(g.config, call.cap),
+            inputs_of(call),
+        )),
+        VerticalLaw::Hold => on_path(hold(g.tecs, limits_of(g.config, call.cap))),
+        VerticalLaw::Fallback => fallback(g, call),
     }
 }
 
-// x - x is +0 for a finite x and NaN otherwise, and a sum of these is 0 exactly where each is.
+// x - x is +0 for a finite x and NaN otherwise, and a sum of these is 0 exactly where each is. One test in place of ten branches, and
+// the sum is a tree, since in a chain each number would wait for the one before it.
+#[tactic(auto, using(crate::proofs::waypoint::Finite::all_zero), unfolding(crate::specs::Plane::all_finite))]
 fn all_finite(v: Vertical) -> bool
     ensures { result ≡ spec.all_finite v }
 {
     let t = v.tecs;
     let d = t.demand;
-    let pitch = v.pitch_rad - v.pitch_rad;
-    let thrust = v.thrust - v.thrust;
-    let altitude = v.altitude.integral - v.altitude.integral;
-    let slewed = d.slewed_height_m - d.slewed_height_m;
-    let height = d.height_m - d.height_m;
-    let airspeed = d.airspeed_mps - d.airspeed_mps;
-    let pitch_integral = t.pitch_integral_rad - t.pitch_integral_rad;
-    let thrust_integral = t.thrust_integral - t.thrust_integral;
-    let filtered = t.filtered_airspeed_mps - t.filtered_airspeed_mps;
-    let steady = t.steady_accel_mps2 - t.steady_accel_mps2;
-    ((pitch + thrust) + (altitude + slewed))
-        + ((height + airspeed) + (pitch_integral + thrust_integral))
-        + (filtered + steady)
+    let zero = |x: f32| x - x;
+    ((zero(v.pitch_rad) + zero(v.thrust)) + (zero(v.altitude.integral) + zero(d.slewed_height_m)))
+        + ((zero(d.height_m) + zero(d.airspeed_mps))
+            + (zero(t.pitch_integral_rad) + zero(t.thrust_integral)))
+        + (zero(t.filtered_airspeed_mps) + zero(t.steady_accel_mps2))
         == 0.0
 }
 
 // A refusal returns the guidance as it was.
-pub fn refusal(g: PlaneGuidance, number: u32) -> Guided
-    ensures { result ≡ spec.refusal g number }
+pub fn refusal(g: PlaneGuidance, why: Refusal) -> Guided
+    ensures { result ≡ spec.refusal g why }
 {
     Guided {
         guidance: g,
-        answer: Answer::Refused(number),
+        answer: Err(why),
     }
 }
 
@@ -266,34 +216,25 @@ fn flown(
 ) -> Guided
     ensures { result ≡ spec.flown g regime lateral law v }
 {
-    let config = g.config;
-    let former = g.former;
-    let altitude = v.altitude;
-    let tecs = v.tecs;
-    let requested = regime_number(regime);
-    let lateral_law = lateral.law;
-    let laws = Laws {
-        lateral: lateral_law,
-        vertical: law,
-    };
-    let setpoint = Setpoint::Plane {
-        roll_rad: lateral.roll_rad,
-        pitch_rad: v.pitch_rad,
-        thrust: v.thrust,
-    };
     Guided {
         guidance: PlaneGuidance {
-            config,
-            requested,
-            altitude,
-            tecs,
-            former,
+            requested: regime_number(regime),
+            altitude: v.altitude,
+            tecs: v.tecs,
+            ..g
         },
-        answer: Answer::Waypoint(WaypointAnswer {
-            setpoint,
-            laws,
+        answer: Ok(Answer::Waypoint(WaypointAnswer {
+            setpoint: Setpoint::Plane {
+                roll_rad: lateral.roll_rad,
+                pitch_rad: v.pitch_rad,
+                thrust: v.thrust,
+            },
+            laws: Laws {
+                lateral: lateral.law,
+                vertical: law,
+            },
             cross_track_m: lateral.cross_track_m,
-        }),
+        })),
     }
 }
 
@@ -310,53 +251,28 @@ fn settled(
     if all_finite(v) {
         flown(g, regime, lateral, law, v)
     } else {
-        refusal(g, 4)
+        refusal(g, Refusal::NotFinite)
     }
 }
 
-pub fn waypoint(
-    g: PlaneGuidance,
-    dt: f32,
-    regime: FlightRegime,
-    w: WaypointCommand,
-    state: VehicleState,
-    cap: OptionF32,
-) -> Guided
-    ensures { result ≡ spec.waypoint g dt regime w state cap }
+// The lateral law stands last where no other number waits for it, so that a processor goes on to the next call meanwhile, and first for
+// steps that follow each other: there the next position and velocity, and so the next step, wait for the roll.
+#[tactic(auto, unfolding(crate::specs::Plane::waypoint))]
+pub fn waypoint<const ROLL_FIRST: bool>(g: PlaneGuidance, call: WaypointCall) -> Guided
+    ensures { result ≡ spec.waypoint g call.dt call.regime call.command call.state call.cap }
 {
-    if bad_cap(cap) {
-        return refusal(g, 3);
+    if bad_cap(call.cap) {
+        return refusal(g, Refusal::PitchCap);
     }
-    let config = g.config;
-    let altitude = g.altitude;
-    let tecs = g.tecs;
-    let law = vertical_law(dt, w, state);
-    // the lateral law last: no other number waits for it, so that a processor goes on to the next call meanwhile
-    let v = vertical_of(law, config, altitude, tecs, dt, w, state, cap);
-    let lateral = steered(config, w, state);
-    settled(g, regime, lateral, law, v)
-}
-
-// The same with the lateral law first, for steps that follow each other: there the next position and velocity, and so the next step,
-// wait for the roll.
-pub fn waypoint_roll_first(
-    g: PlaneGuidance,
-    dt: f32,
-    regime: FlightRegime,
-    w: WaypointCommand,
-    state: VehicleState,
-    cap: OptionF32,
-) -> Guided
-    ensures { result ≡ spec.waypoint g dt regime w state cap }
-{
-    if bad_cap(cap) {
-        return refusal(g, 3);
+    if ROLL_FIRST {
+        let lateral = steered(g.config, call.command, call.state);
+        let law = vertical_law(call);
+        let v = vertical_of(law, &g, call);
+        settled(g, call.regime, lateral, law, v)
+    } else {
+        let law = vertical_law(call);
+        let v = vertical_of(law, &g, call);
+        let lateral = steered(g.config, call.command, call.state);
+        settled(g, call.regime, lateral, law, v)
     }
-    let config = g.config;
-    let altitude = g.altitude;
-    let tecs = g.tecs;
-    let lateral = steered(config, w, state);
-    let law = vertical_law(dt, w, state);
-    let v = vertical_of(law, config, altitude, tecs, dt, w, state, cap);
-    settled(g, regime, lateral, law, v)
 }

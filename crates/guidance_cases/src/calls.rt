@@ -1,164 +1,142 @@
-// A row's call: its configuration, or its command and sensors.
-ghost use Rattle.std.specs.Prelude.{◌≤◌};
-
-use crate::rows::{number, word};
+// A row's call: its configuration, or its command and sensors. tools/vectors/guidance.py says what is in a row.
 use arithmetic::vector::Vec2;
-use laws::config::{PlaneGuidanceConfig, TecsConfig};
+use case_rows::{Row, from_bits};
+use config_numbers::config_of_bits;
+use laws::config::PlaneGuidanceConfig;
 use laws::types::{
     AbsoluteAttitudeCommand, AbsoluteRateCommand, AttitudeCommand, ControlInput, FlightRegime,
-    OptionF32, OptionVec2, RateCommand, Vec3, VehicleState, WaypointCommand,
+    RateCommand, Vec3, VehicleState, WaypointCommand,
 };
 
-fn vec2(row: &[u8; 212], n: usize) -> Vec2
-    requires { n ≤ 51 }
-{
-    Vec2 {
-        x: number(row, n),
-        y: number(row, n + 1),
+// What a guide call takes besides the guidance.
+#[derive(Clone, Copy)]
+pub struct Guide {
+    pub dt: f32,
+    pub regime: FlightRegime,
+    pub input: ControlInput,
+    pub state: VehicleState,
+    pub cap: Option<f32>,
+}
+
+// A call on a guidance.
+#[derive(Clone, Copy)]
+pub enum Call {
+    Prime,
+    Guide(Guide),
+    SetConfig(PlaneGuidanceConfig),
+    TakeBack,
+}
+
+impl Call {
+    // None where no such call has the row's number.
+    pub fn of(row: &Row) -> Option<Call> {
+        match row.words[0] {
+            0 => Some(Call::Prime),
+            1 => Some(Call::guide(row, ControlInput::Attitude(attitude(row)))),
+            2 => Some(Call::guide(row, ControlInput::Rate(rate(row)))),
+            3 => Some(Call::guide(row, ControlInput::Waypoint(waypoint(row)))),
+            4 => Some(Call::guide(row, ControlInput::AbsoluteAttitude(absolute_attitude(row)))),
+            5 => Some(Call::guide(row, ControlInput::Land)),
+            6 => Some(Call::guide(row, ControlInput::AbsoluteRate(absolute_rate(row)))),
+            7 => Some(Call::SetConfig(config(row))),
+            9 => Some(Call::TakeBack),
+            _ => None,
+        }
+    }
+
+    fn guide(row: &Row, input: ControlInput) -> Call {
+        Call::Guide(Guide {
+            dt: from_bits(row.words[2]),
+            regime: regime(row.words[1]),
+            input,
+            state: sensors(row),
+            cap: option(row.words(23)),
+        })
     }
 }
 
-fn vec3(row: &[u8; 212], n: usize) -> Vec3
-    requires { n ≤ 50 }
-{
-    Vec3 {
-        x: number(row, n),
-        y: number(row, n + 1),
-        z: number(row, n + 2),
-    }
+pub fn config(row: &Row) -> PlaneGuidanceConfig {
+    config_of_bits(row.words(1))
+}
+
+fn vec2([x, y]: [f32; 2]) -> Vec2 {
+    Vec2 { x, y }
+}
+
+fn vec3([x, y, z]: [f32; 3]) -> Vec3 {
+    Vec3 { x, y, z }
 }
 
 // A number that may be missing: a word that says so, and the number.
-pub fn option(row: &[u8; 212], n: usize) -> OptionF32
-    requires { n ≤ 51 }
-{
-    if word(row, n) == 0 {
-        OptionF32::None
-    } else {
-        OptionF32::Some(number(row, n + 1))
-    }
+fn option([stands, number]: [u32; 2]) -> Option<f32> {
+    (stands != 0).then(|| from_bits(number))
 }
 
-fn leg(row: &[u8; 212]) -> OptionVec2 {
-    if word(row, 9) == 0 {
-        OptionVec2::None
-    } else {
-        OptionVec2::Some(vec2(row, 10))
-    }
+fn leg([stands, x, y]: [u32; 3]) -> Option<Vec2> {
+    (stands != 0).then(|| vec2([x, y].map(from_bits)))
 }
 
-// Fields 15 to 30.
-fn tecs_config(row: &[u8; 212]) -> TecsConfig {
-    TecsConfig {
-        time_constant_s: number(row, 15),
-        max_climb_mps: number(row, 16),
-        min_sink_mps: number(row, 17),
-        max_sink_mps: number(row, 18),
-        thrust_damping: number(row, 19),
-        integrator_gain: number(row, 20),
-        pitch_damping: number(row, 21),
-        pitch_integrator_gain: number(row, 22),
-        speed_weight: number(row, 23),
-        roll_compensation: number(row, 24),
-        min_airspeed_mps: number(row, 25),
-        max_airspeed_mps: number(row, 26),
-        underspeed_share: number(row, 27),
-        height_demand_time_constant_s: number(row, 28),
-        airspeed_rate_time_constant_s: number(row, 29),
-        kinetic_rate_high_pass_s: number(row, 30),
-    }
-}
-
-// Word n is field n.
-pub fn config(row: &[u8; 212]) -> PlaneGuidanceConfig {
-    PlaneGuidanceConfig {
-        max_bank_rad: number(row, 1),
-        max_pitch_up_rad: number(row, 2),
-        max_pitch_down_rad: number(row, 3),
-        max_rate_radps: vec3(row, 4),
-        trim_pitch_rad: number(row, 7),
-        cruise_thrust: number(row, 8),
-        l1_period_s: number(row, 9),
-        l1_damping: number(row, 10),
-        loiter_radius_m: number(row, 11),
-        altitude_p: number(row, 12),
-        altitude_i: number(row, 13),
-        altitude_max_integral: number(row, 14),
-        tecs: tecs_config(row),
-        min_thrust: number(row, 31),
-        max_thrust: number(row, 32),
-        climb_thrust_per_rad: number(row, 33),
-    }
-}
-
-pub fn regime(row: &[u8; 212]) -> FlightRegime {
-    if word(row, 1) == 0 {
+fn regime(number: u32) -> FlightRegime {
+    if number == 0 {
         FlightRegime::Copter
     } else {
         FlightRegime::Plane
     }
 }
 
-fn attitude(row: &[u8; 212]) -> AttitudeCommand {
+fn attitude(row: &Row) -> AttitudeCommand {
+    let [roll, pitch, throttle] = row.numbers::<3>(3);
     AttitudeCommand {
-        throttle: number(row, 5),
-        roll: number(row, 3),
-        pitch: number(row, 4),
+        throttle,
+        roll,
+        pitch,
     }
 }
 
-fn rate(row: &[u8; 212]) -> RateCommand {
+fn rate(row: &Row) -> RateCommand {
+    let [roll_rate, pitch_rate, yaw_rate, throttle] = row.numbers::<4>(3);
     RateCommand {
-        throttle: number(row, 6),
-        roll_rate: number(row, 3),
-        pitch_rate: number(row, 4),
-        yaw_rate: number(row, 5),
+        throttle,
+        roll_rate,
+        pitch_rate,
+        yaw_rate,
     }
 }
 
-fn waypoint(row: &[u8; 212]) -> WaypointCommand {
+fn waypoint(row: &Row) -> WaypointCommand {
+    let [altitude_m, cruise_speed_mps] = row.numbers::<2>(12);
     WaypointCommand {
-        position_m: vec2(row, 7),
-        velocity_mps: leg(row),
-        altitude_m: number(row, 12),
-        cruise_speed_mps: number(row, 13),
+        position_m: vec2(row.numbers(7)),
+        velocity_mps: leg(row.words(9)),
+        altitude_m,
+        cruise_speed_mps,
     }
 }
 
-fn absolute_attitude(row: &[u8; 212]) -> AbsoluteAttitudeCommand {
+fn absolute_attitude(row: &Row) -> AbsoluteAttitudeCommand {
+    let [roll_rad, pitch_rad, thrust] = row.numbers::<3>(3);
     AbsoluteAttitudeCommand {
-        roll_rad: number(row, 3),
-        pitch_rad: number(row, 4),
-        thrust: number(row, 5),
+        roll_rad,
+        pitch_rad,
+        thrust,
     }
 }
 
-fn absolute_rate(row: &[u8; 212]) -> AbsoluteRateCommand {
+fn absolute_rate(row: &Row) -> AbsoluteRateCommand {
+    let [roll_radps, pitch_radps, yaw_radps, thrust] = row.numbers::<4>(3);
     AbsoluteRateCommand {
-        roll_radps: number(row, 3),
-        pitch_radps: number(row, 4),
-        yaw_radps: number(row, 5),
-        thrust: number(row, 6),
+        roll_radps,
+        pitch_radps,
+        yaw_radps,
+        thrust,
     }
 }
 
-// The command of kind 1 to 6.
-pub fn input(row: &[u8; 212]) -> ControlInput {
-    match word(row, 0) {
-        1 => ControlInput::Attitude(attitude(row)),
-        2 => ControlInput::Rate(rate(row)),
-        3 => ControlInput::Waypoint(waypoint(row)),
-        4 => ControlInput::AbsoluteAttitude(absolute_attitude(row)),
-        5 => ControlInput::Land,
-        _ => ControlInput::AbsoluteRate(absolute_rate(row)),
-    }
-}
-
-pub fn sensors(row: &[u8; 212]) -> VehicleState {
+fn sensors(row: &Row) -> VehicleState {
     VehicleState {
-        position_m: vec3(row, 14),
-        velocity_mps: vec3(row, 17),
-        roll_rad: number(row, 20),
-        airspeed_mps: option(row, 21),
+        position_m: vec3(row.numbers(14)),
+        velocity_mps: vec3(row.numbers(17)),
+        roll_rad: from_bits(row.words[20]),
+        airspeed_mps: option(row.words(21)),
     }
 }

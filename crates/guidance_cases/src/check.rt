@@ -1,208 +1,151 @@
 // Runs a row's call, and says whether the answer and the stored state are the row's.
-use crate::calls;
-use crate::rows::{number, same, word};
-use guidance::plane::{
-    Answer, Created, FlightMode, FlightModeReport, Guided, LateralLaw, Laws, ModeRefusal,
-    PlaneGuidance, VerticalLaw,
-};
-use laws::tecs::Tecs;
+use crate::calls::{Call, Guide, config};
+use case_rows::{Row, to_bits};
+use guidance::plane::{Answer, Guided, PlaneGuidance};
 use laws::types::Setpoint;
+use refusals::Refusal;
 
-// The guidance after a row's call, and whether all was as the row says.
-#[derive(Clone, Copy)]
-pub struct Checked {
-    pub guidance: PlaneGuidance,
-    pub right: bool,
-}
+// The number of a row that makes a guidance.
+const NEW: u32 = 8;
 
-fn lateral_number(law: LateralLaw) -> u32 {
-    match law {
-        LateralLaw::Track => 1,
-        LateralLaw::Loiter => 2,
-        LateralLaw::Idle => 3,
-    }
-}
-
-fn vertical_number(law: VerticalLaw) -> u32 {
-    match law {
-        VerticalLaw::Energy => 1,
-        VerticalLaw::Hold => 2,
-        VerticalLaw::Fallback => 3,
-    }
-}
-
-fn laws_right(row: &[u8; 212], laws: Laws) -> bool {
-    let lateral = laws.lateral;
-    let vertical = laws.vertical;
-    (word(row, 35) == lateral_number(lateral)) & (word(row, 36) == vertical_number(vertical))
-}
-
-fn setpoint_right(row: &[u8; 212], setpoint: Setpoint) -> bool {
+// A setpoint's number, 1 for a plane setpoint and 2 for a rate setpoint, and its numbers' bits.
+fn setpoint_words(setpoint: Setpoint) -> [u32; 5] {
     match setpoint {
         Setpoint::Plane {
             roll_rad,
             pitch_rad,
             thrust,
-        } => {
-            (word(row, 37) == 1)
-                & same(row, 38, roll_rad)
-                & same(row, 39, pitch_rad)
-                & same(row, 40, thrust)
-        }
+        } => [1, to_bits(roll_rad), to_bits(pitch_rad), to_bits(thrust), 0],
         Setpoint::PlaneRate {
             roll_radps,
             pitch_radps,
             yaw_radps,
             thrust,
-        } => {
-            (word(row, 37) == 2)
-                & same(row, 38, roll_radps)
-                & same(row, 39, pitch_radps)
-                & same(row, 40, yaw_radps)
-                & same(row, 41, thrust)
-        }
+        } => [
+            2,
+            to_bits(roll_radps),
+            to_bits(pitch_radps),
+            to_bits(yaw_radps),
+            to_bits(thrust),
+        ],
     }
 }
 
-fn answer_right(row: &[u8; 212], answer: Answer) -> bool {
+// Words 34 to 41: the refusal's number; the laws, numbered from 1 in the order in which they are declared; the setpoint, and of
+// a waypoint the distance off the line.
+fn answer_words(answer: Result<Answer, Refusal>) -> [u32; 8] {
     match answer {
-        Answer::Refused(n) => (word(row, 34) == n) & (n != 0),
-        Answer::Commanded(setpoint) => {
-            (word(row, 34) == 0) & (word(row, 35) == 0) & setpoint_right(row, setpoint)
+        Err(refusal) => [refusal.number(), 0, 0, 0, 0, 0, 0, 0],
+        Ok(Answer::Commanded(setpoint)) => {
+            let [kind, a, b, c, d] = setpoint_words(setpoint);
+            [0, 0, 0, kind, a, b, c, d]
         }
-        Answer::Waypoint(a) => {
-            let laws = a.laws;
-            let setpoint = a.setpoint;
-            (word(row, 34) == 0)
-                & laws_right(row, laws)
-                & setpoint_right(row, setpoint)
-                & same(row, 41, a.cross_track_m)
+        Ok(Answer::Waypoint(w)) => {
+            let lateral = w.laws.lateral as u32 + 1;
+            let vertical = w.laws.vertical as u32 + 1;
+            let [kind, roll, pitch, thrust, _] = setpoint_words(w.setpoint);
+            [
+                0,
+                lateral,
+                vertical,
+                kind,
+                roll,
+                pitch,
+                thrust,
+                to_bits(w.cross_track_m),
+            ]
         }
     }
 }
 
-// Flags are 0 or 1.
-fn tecs_right(row: &[u8; 212], t: Tecs) -> bool {
-    (word(row, 44) == t.seeded)
-        & same(row, 45, t.demand.slewed_height_m)
-        & same(row, 46, t.demand.height_m)
-        & same(row, 47, t.demand.airspeed_mps)
-        & same(row, 48, t.filtered_airspeed_mps)
-        & same(row, 49, t.steady_accel_mps2)
-        & same(row, 50, t.pitch_integral_rad)
-        & same(row, 51, t.thrust_integral)
-        & (word(row, 52) == t.underspeed)
+// Words 42 to 52. The last nine are the energy state's; laws_cases lists them too, since case_rows, which the two share, knows no law.
+fn state_words(g: &PlaneGuidance) -> [u32; 11] {
+    [
+        g.requested,
+        to_bits(g.altitude.integral),
+        g.tecs.seeded,
+        to_bits(g.tecs.demand.slewed_height_m),
+        to_bits(g.tecs.demand.height_m),
+        to_bits(g.tecs.demand.airspeed_mps),
+        to_bits(g.tecs.filtered_airspeed_mps),
+        to_bits(g.tecs.steady_accel_mps2),
+        to_bits(g.tecs.pitch_integral_rad),
+        to_bits(g.tecs.thrust_integral),
+        g.tecs.underspeed,
+    ]
 }
 
-fn mode_number(mode: FlightMode) -> u32 {
-    match mode {
-        FlightMode::Copter => 0,
-        FlightMode::Plane => 1,
-    }
+fn is_state(row: &Row, g: &PlaneGuidance) -> bool {
+    row.words(42) == state_words(g)
 }
 
-fn refusal_number(refusal: ModeRefusal) -> u32 {
-    match refusal {
-        ModeRefusal::None => 0,
-        ModeRefusal::Unsupported => 1,
-    }
-}
-
-// Whether the mode report after a call is the Rust's.
-fn mode_right(row: &[u8; 212], report: FlightModeReport) -> bool {
-    let mode = report.mode;
-    let refusal = report.refusal;
-    (word(row, 25) == mode_number(mode)) & (word(row, 26) == refusal_number(refusal))
-}
-
-fn state_right(row: &[u8; 212], g: PlaneGuidance) -> bool {
-    let t = g.tecs;
-    (word(row, 42) == g.requested) & same(row, 43, g.altitude.integral) & tecs_right(row, t)
-}
-
-fn created(row: &[u8; 212], g: PlaneGuidance) -> Checked {
-    let made = PlaneGuidance::new(calls::config(row));
-    match made {
-        Created::Refused(field) => Checked {
-            guidance: g,
-            right: (word(row, 34) == field) & (field != 0),
-        },
-        Created::Made(h) => Checked {
-            guidance: h,
-            right: (word(row, 34) == 0) & state_right(row, h),
-        },
-    }
-}
-
-// The stall guard stands where the oracle's stored underspeed does.
-fn guard_right(row: &[u8; 212], stands: bool) -> bool {
-    if stands {
-        word(row, 52) != 0
-    } else {
-        word(row, 52) == 0
-    }
-}
-
-fn primed(row: &[u8; 212], g: PlaneGuidance) -> Checked {
-    let h = g.prime();
-    Checked {
-        guidance: h,
-        right: state_right(row, h)
-            & mode_right(row, h.flight_mode())
-            & guard_right(row, h.stall_guard()),
-    }
-}
-
-fn configured(row: &[u8; 212], g: PlaneGuidance) -> Checked {
-    let set = g.set_config(calls::config(row));
-    let h = set.guidance;
-    Checked {
-        guidance: h,
-        right: (word(row, 34) == set.field) & state_right(row, h),
-    }
-}
-
-fn taken_back(row: &[u8; 212], g: PlaneGuidance) -> Checked {
-    let back = g.take_back();
-    let h = back.guidance;
-    Checked {
-        guidance: h,
-        right: (word(row, 34) == back.refusal) & state_right(row, h),
-    }
+// The mode report, as the Rust numbers it, and the stall guard, which stands where the oracle's stored underspeed does.
+fn is_report(row: &Row, g: &PlaneGuidance) -> bool {
+    let report = g.flight_mode();
+    let words = [report.mode as u32, u32::from(report.refusal.is_some())];
+    row.words(25) == words && g.stall_guard() == (row.words[52] != 0)
 }
 
 // `guide` where the row has no cap.
-fn answered(row: &[u8; 212], g: PlaneGuidance) -> Guided {
-    let dt = number(row, 2);
-    let regime = calls::regime(row);
-    let input = calls::input(row);
-    let state = calls::sensors(row);
-    if word(row, 23) == 0 {
-        g.guide(dt, regime, input, state)
-    } else {
-        g.guide_capped(dt, regime, input, state, calls::option(row, 23))
+fn guided(g: &PlaneGuidance, c: Guide) -> Guided {
+    match c.cap {
+        None => g.guide(c.dt, c.regime, c.input, c.state),
+        cap => g.guide_capped(c.dt, c.regime, c.input, c.state, cap),
     }
 }
 
-fn guided(row: &[u8; 212], g: PlaneGuidance) -> Checked {
-    let o = answered(row, g);
-    let h = o.guidance;
-    let answer = o.answer;
-    Checked {
-        guidance: h,
-        right: answer_right(row, answer)
-            & state_right(row, h)
-            & mode_right(row, h.flight_mode())
-            & guard_right(row, h.stall_guard()),
+// Takes over what a change makes of the guidance; the number that it is refused with, or 0.
+fn take_over(g: &mut PlaneGuidance, changed: Result<PlaneGuidance, u32>) -> u32 {
+    match changed {
+        Ok(after) => {
+            *g = after;
+            0
+        }
+        Err(number) => number,
     }
 }
 
-pub fn try_call(row: &[u8; 212], g: PlaneGuidance) -> Checked {
-    match word(row, 0) {
-        0 => primed(row, g),
-        7 => configured(row, g),
-        8 => created(row, g),
-        9 => taken_back(row, g),
-        _ => guided(row, g),
+// Makes a row's call on the guidance.
+fn is_obeyed(row: &Row, call: Call, g: &mut PlaneGuidance) -> bool {
+    match call {
+        Call::Prime => {
+            *g = g.prime();
+            is_state(row, g) && is_report(row, g)
+        }
+        Call::Guide(c) => {
+            let after = guided(g, c);
+            *g = after.guidance;
+            row.words(34) == answer_words(after.answer) && is_state(row, g) && is_report(row, g)
+        }
+        Call::SetConfig(config) => {
+            let changed = g.set_config(config).map_err(|invalid| invalid.field);
+            take_over(g, changed) == row.words[34] && is_state(row, g)
+        }
+        Call::TakeBack => {
+            let changed = g.take_back().map_err(|refusal| refusal.number());
+            take_over(g, changed) == row.words[34] && is_state(row, g)
+        }
+    }
+}
+
+// Makes the guidance of a row's configuration, if it is accepted.
+fn is_made(row: &Row, guidance: &mut Option<PlaneGuidance>) -> bool {
+    match PlaneGuidance::new(config(row)) {
+        Ok(made) => {
+            *guidance = Some(made);
+            row.words[34] == 0 && is_state(row, &made)
+        }
+        Err(invalid) => row.words[34] == invalid.field,
+    }
+}
+
+// Makes a row's call; there is no guidance before the first `new`.
+pub fn try_call(row: &Row, guidance: &mut Option<PlaneGuidance>) -> bool {
+    if row.words[0] == NEW {
+        return is_made(row, guidance);
+    }
+    match (Call::of(row), guidance) {
+        (Some(call), Some(g)) => is_obeyed(row, call, g),
+        _ => false,
     }
 }

@@ -1,14 +1,15 @@
 -- A configuration's record read for a host. Definitions only.
-use Rattle.std.specs.Prelude.{ℕ, List}
+use Rattle.std.specs.Prelude.{ℕ, List, Result, Ok, Err}
 use Rattle.laws.specs.Config.{default}
 use Rattle.records.specs.Config.{read_config}
 use Rattle.records.specs.declared.config.ReadConfig.{ReadConfig}
-use Rattle.records.specs.declared.config.ReadConfig.TheVariants as read
+use Rattle.refusals.specs.Numbers.{number}
+use Rattle.refusals.specs.declared.Refusal.{Refusal}
 use Rattle.host.specs.declared.reading.ConfigRead.{ConfigRead}
 
-abbrev pub config_of : ReadConfig → ConfigRead
-config_of (read.Refused n) = record { refusal = n; next = 0; config = default }
-config_of (read.Read c next) = record { refusal = 0; next = next; config = c }
+abbrev pub config_of : Result ReadConfig Refusal → ConfigRead
+config_of (Err why) = record { refusal = number why; next = 0; config = default }
+config_of (Ok r) = record { refusal = 0; next = r.next; config = r.config }
 
 unfoldable pub config_read : List ℕ → ℕ → ConfigRead
 config_read bytes at = config_of (read_config bytes at)

@@ -1,16 +1,16 @@
 -- The calls on a guidance that a host holds, by the number of what is wanted and a record's bytes. Definitions only.
-use Rattle.std.specs.Prelude.{ℕ, Bool, cond, List, eqb}
+use Rattle.std.specs.Prelude.{ℕ, Bool, cond, List, eqb, Result, Ok, Err}
 use Rattle.guidance.specs.Plane.{created}
 use Rattle.claims.specs.Calls.{Call, set_config, take_back, perform}
 use Rattle.guidance.specs.declared.plane.PlaneGuidance.{PlaneGuidance}
-use Rattle.guidance.specs.declared.plane.Created.{Created}
-use Rattle.guidance.specs.declared.plane.Created.TheVariants as New
+use Rattle.laws.specs.declared.config.InvalidConfig.{InvalidConfig}
+use Rattle.refusals.specs.Numbers.{number}
+use Rattle.refusals.specs.declared.Refusal.{Refusal}
+use Rattle.refusals.specs.declared.Refusal.TheVariants as why
 use Rattle.records.specs.Call.{read_call}
 use Rattle.records.specs.Config.{read_config}
 use Rattle.records.specs.declared.call.ReadCall.{ReadCall}
-use Rattle.records.specs.declared.call.ReadCall.TheVariants as call
 use Rattle.records.specs.declared.config.ReadConfig.{ReadConfig}
-use Rattle.records.specs.declared.config.ReadConfig.TheVariants as config
 use Rattle.calls.specs.Calls.{call_of}
 use Rattle.host_answers.specs.Answer.{bare, of_reply}
 use Rattle.rights.specs.Rights.{may}
@@ -22,34 +22,38 @@ use Rattle.host.specs.declared.run.Ran.{Ran}
 abbrev pub unchanged : PlaneGuidance → ℕ → ℕ → ℕ → Ran
 unchanged g refusal failing next = record { guidance = g; answer = bare refusal failing next }
 
+-- a refusal, with its number
+abbrev pub refused : PlaneGuidance → Refusal → Ran
+refused g why = unchanged g (number why) 0 0
+
 -- one of demand 3's calls
 unfoldable pub performed : PlaneGuidance → Call → ℕ → Ran
 performed g k next = record { guidance = (perform g k).next; answer = of_reply (perform g k).reply next }
 
 -- what 0: a call record, read at place 0
-abbrev pub of_call : PlaneGuidance → ReadCall → Ran
-of_call g (call.Refused n) = unchanged g n 0 0
-of_call g (call.Read k next) = performed g (call_of k) next
+abbrev pub of_call : PlaneGuidance → Result ReadCall Refusal → Ran
+of_call g (Err why) = refused g why
+of_call g (Ok r) = performed g (call_of r.call) r.next
 
 unfoldable pub run_call : PlaneGuidance → List ℕ → Ran
 run_call g bytes = of_call g (read_call bytes 0)
 
 -- what 1: a configuration record, set
-abbrev pub of_config : PlaneGuidance → ReadConfig → Ran
-of_config g (config.Refused n) = unchanged g n 0 0
-of_config g (config.Read c next) = performed g (set_config c) next
+abbrev pub of_config : PlaneGuidance → Result ReadConfig Refusal → Ran
+of_config g (Err why) = refused g why
+of_config g (Ok r) = performed g (set_config r.config) r.next
 
 unfoldable pub run_config : PlaneGuidance → List ℕ → Ran
 run_config g bytes = of_config g (read_config bytes 0)
 
 -- what 2: what `new` makes of a configuration record; number 1 keeps the guidance that was there
-abbrev pub made : PlaneGuidance → Created → ℕ → Ran
-made g (New.Refused failing) next = unchanged g 1 failing next
-made g (New.Made fresh) next = record { guidance = fresh; answer = bare 0 0 next }
+abbrev pub made : PlaneGuidance → Result PlaneGuidance InvalidConfig → ℕ → Ran
+made g (Err invalid) next = unchanged g 1 invalid.field next
+made g (Ok fresh) next = record { guidance = fresh; answer = bare 0 0 next }
 
-abbrev pub of_new : PlaneGuidance → ReadConfig → Ran
-of_new g (config.Refused n) = unchanged g n 0 0
-of_new g (config.Read c next) = made g (created c) next
+abbrev pub of_new : PlaneGuidance → Result ReadConfig Refusal → Ran
+of_new g (Err why) = refused g why
+of_new g (Ok r) = made g (created r.config) r.next
 
 unfoldable pub run_new : PlaneGuidance → List ℕ → Ran
 run_new g bytes = of_new g (read_config bytes 0)
@@ -65,7 +69,7 @@ run g what bytes =
     (cond (eqb what 1) (run_config g bytes)
     (cond (eqb what 2) (run_new g bytes)
     (cond (eqb what 3) (run_back g)
-    (unchanged g 255 0 0))))
+    (refused g why.UnknownRequest))))
 
 -- ---- by a caller
 
@@ -83,4 +87,4 @@ may_run caller what = may caller (deed_of what)
 
 -- "13: the caller lacks the right, before every other check", of the record's bytes too
 unfoldable pub run_by : PlaneGuidance → ℕ → ℕ → List ℕ → Ran
-run_by g caller what bytes = cond (may_run caller what) (run g what bytes) (unchanged g 13 0 0)
+run_by g caller what bytes = cond (may_run caller what) (run g what bytes) (refused g why.NoRight)

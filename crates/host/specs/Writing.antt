@@ -1,5 +1,6 @@
 -- Records written for a host. Definitions only.
-use Rattle.std.specs.Prelude.{ℕ, Bool, cond, ◌||◌, List, ltb}
+use Rattle.std.specs.Prelude.{ℕ, Bool, cond, ◌||◌, List, ltb, Err}
+use Rattle.refusals.specs.declared.Refusal.TheVariants as why
 use Rattle.laws.specs.declared.config.PlaneGuidanceConfig.{PlaneGuidanceConfig}
 use Rattle.fields.specs.Writing.{answer_of, buffer_of}
 use Rattle.records.specs.Call.{call_record}
@@ -14,7 +15,7 @@ unfoldable pub unknown : CallNumbers → Bool
 unknown k = ltb 6 k.kind || ltb 1 k.regime
 
 unfoldable pub call_place : CallNumbers → List ℕ → ℕ → Place
-call_place k out at = cond (unknown k) (record { refusal = 7; next = 0 }) (place_of (answer_of out at (call_record (from_numbers k))))
+call_place k out at = cond (unknown k) (place_of (Err why.UnknownKind)) (place_of (answer_of out at (call_record (from_numbers k))))
 
 -- a refused write changes no byte
 unfoldable pub call_buffer : CallNumbers → List ℕ → ℕ → List ℕ

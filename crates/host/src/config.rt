@@ -14,5 +14,8 @@ pub fn nuthkolla_default_config() -> PlaneGuidanceConfig
 pub fn nuthkolla_validate(config: PlaneGuidanceConfig) -> u32
     ensures { result ≡ settings.validate config }
 {
-    validate(config)
+    match validate(config) {
+        Ok(()) => 0,
+        Err(invalid) => invalid.field,
+    }
 }

@@ -3,6 +3,7 @@ ghost use Rattle.std.specs.Prelude.{◌≡◌};
 ghost use Rattle.host.specs.Mode as spec;
 
 use guidance::plane::{ModeRefusal, PlaneGuidance};
+use refusals::Refusal;
 use rights::{Deed, may};
 
 // refusal: 0 or the refusal's number; value: of the mode 0, or 1 where the request is unsupported (always plane); of the stall
@@ -17,62 +18,63 @@ pub struct Report {
 fn mode_value(g: PlaneGuidance) -> u32
     ensures { result ≡ spec.mode_value g }
 {
-    let report = g.flight_mode();
-    let refusal = report.refusal;
-    match refusal {
-        ModeRefusal::None => 0,
-        ModeRefusal::Unsupported => 1,
+    match g.flight_mode().refusal {
+        None => 0,
+        Some(ModeRefusal::Unsupported) => 1,
     }
 }
 
 fn guard_value(g: PlaneGuidance) -> u32
     ensures { result ≡ spec.guard_value g }
 {
-    if g.stall_guard() { 1 } else { 0 }
+    u32::from(g.stall_guard())
 }
 
+#[tactic(auto, unfolding(crate::specs::Mode::deed_of))]
 fn deed_of(what: u32) -> Deed
     ensures { result ≡ spec.deed_of what }
 {
-    if what == 0 {
-        return Deed::ModeReport;
+    match what {
+        0 => Deed::ModeReport,
+        1 => Deed::GuardReport,
+        _ => Deed::Other,
     }
-    if what == 1 {
-        return Deed::GuardReport;
-    }
-    Deed::Other
 }
 
-fn reported(g: PlaneGuidance, what: u32) -> Report
-    ensures { result ≡ spec.reported g what }
+fn told(value: u32) -> Report
+    ensures { result ≡ spec.told value }
 {
-    if what == 0 {
-        return Report {
-            refusal: 0,
-            value: mode_value(g),
-        };
-    }
-    if what == 1 {
-        return Report {
-            refusal: 0,
-            value: guard_value(g),
-        };
-    }
+    Report { refusal: 0, value }
+}
+
+fn refused(why: Refusal) -> Report
+    ensures { result ≡ spec.refused why }
+{
     Report {
-        refusal: 255,
+        refusal: why.number(),
         value: 0,
     }
 }
 
-// what: 0 the mode, 1 the stall guard. Number 13 comes first; 255 for any other number.
+fn reported(g: PlaneGuidance, deed: Deed) -> Report
+    ensures { result ≡ spec.reported g deed }
+{
+    match deed {
+        Deed::ModeReport => told(mode_value(g)),
+        Deed::GuardReport => told(guard_value(g)),
+        _ => refused(Refusal::UnknownRequest),
+    }
+}
+
+// what, a number for C: 0 the mode, 1 the stall guard. Number 13 comes first; 255 for any other number.
+#[tactic(auto, unfolding(crate::specs::Mode::report_by))]
 pub fn nuthkolla_report(guidance: PlaneGuidance, caller: u32, what: u32) -> Report
     ensures { result ≡ spec.report_by guidance caller what }
 {
-    if may(caller, deed_of(what)) {
-        return reported(guidance, what);
-    }
-    Report {
-        refusal: 13,
-        value: 0,
+    let deed = deed_of(what);
+    if may(caller, deed) {
+        reported(guidance, deed)
+    } else {
+        refused(Refusal::NoRight)
     }
 }

@@ -3,7 +3,7 @@ ghost use Rattle.std.specs.Prelude.{◌≡◌};
 ghost use Rattle.host.specs.Reading as spec;
 
 use laws::config::{PlaneGuidanceConfig, default};
-use records::config::{ReadConfig, read_config};
+use records::config::read_config;
 
 // A configuration that was read; the defaults where it was refused.
 #[repr(C)]
@@ -15,20 +15,20 @@ pub struct ConfigRead {
 }
 
 // Reads a configuration's record at a place, without judging its numbers.
+#[tactic(auto, unfolding(crate::specs::Reading::config_read))]
 pub fn nuthkolla_read_config(bytes: &[u8], at: usize) -> ConfigRead
     ensures { result ≡ spec.config_read bytes.now at }
 {
-    let read = read_config(bytes, at);
-    match read {
-        ReadConfig::Refused(n) => ConfigRead {
-            refusal: n as u32,
+    match read_config(bytes, at) {
+        Err(why) => ConfigRead {
+            refusal: why.number(),
             next: 0,
             config: default(),
         },
-        ReadConfig::Read { config, next } => ConfigRead {
+        Ok(read) => ConfigRead {
             refusal: 0,
-            next,
-            config,
+            next: read.next,
+            config: read.config,
         },
     }
 }

@@ -5,10 +5,12 @@ ghost use Rattle.host.specs.Run as spec;
 ghost use Rattle.host.specs.Code.Dispatch as code;
 
 use calls::perform;
-use guidance::plane::{Created, PlaneGuidance};
-use host_answers::answer::{RunAnswer, bare, of_field, of_reply};
-use records::call::{ReadCall, read_call};
-use records::config::{ReadConfig, read_config};
+use guidance::plane::PlaneGuidance;
+use host_answers::answer::{RunAnswer, bare, of_invalid, of_reply};
+use laws::config::InvalidConfig;
+use records::call::read_call;
+use records::config::read_config;
+use refusals::Refusal;
 use rights::{Deed, may};
 
 // The guidance after a call, and the call's answer.
@@ -18,151 +20,133 @@ pub struct Ran {
     pub answer: RunAnswer,
 }
 
-fn run_call(g: PlaneGuidance, bytes: &[u8]) -> Ran
-    ensures { result ≡ spec.run_call g bytes.now }
+// A refused call, which leaves the guidance as it was.
+fn refused(g: PlaneGuidance, why: Refusal) -> Ran
+    ensures { result ≡ spec.refused g why }
 {
-    let read = read_call(bytes, 0);
-    match read {
-        ReadCall::Refused(n) => Ran {
-            guidance: g,
-            answer: bare(n as u32, 0, 0),
-        },
-        ReadCall::Read { call, next } => {
-            let done = perform(g, call);
-            let guidance = done.guidance;
-            let reply = done.reply;
-            Ran {
-                guidance,
-                answer: of_reply(reply, next),
-            }
-        }
+    Ran {
+        guidance: g,
+        answer: bare(why.number(), 0, 0),
     }
 }
 
-fn run_config(g: PlaneGuidance, bytes: &[u8]) -> Ran
-    ensures { result ≡ spec.run_config g bytes.now }
+// The guidance after a configuration that passes, or the one that was there.
+fn judged(g: PlaneGuidance, done: Result<PlaneGuidance, InvalidConfig>, next: usize) -> Ran
+    ensures { result ≡ spec.made g done next }
 {
-    let read = read_config(bytes, 0);
-    match read {
-        ReadConfig::Refused(n) => Ran {
+    match done {
+        Err(invalid) => Ran {
             guidance: g,
-            answer: bare(n as u32, 0, 0),
+            answer: of_invalid(invalid, next),
         },
-        ReadConfig::Read { config, next } => {
-            let done = g.set_config(config);
-            let guidance = done.guidance;
-            Ran {
-                guidance,
-                answer: of_field(done.field, next),
-            }
-        }
-    }
-}
-
-// The guidance that `new` made, or the one that was there.
-fn made(g: PlaneGuidance, created: Created, next: usize) -> Ran
-    ensures { result ≡ spec.made g created next }
-{
-    match created {
-        Created::Refused(field) => Ran {
-            guidance: g,
-            answer: bare(1, field, next),
-        },
-        Created::Made(fresh) => Ran {
-            guidance: fresh,
+        Ok(guidance) => Ran {
+            guidance,
             answer: bare(0, 0, next),
         },
     }
 }
 
+#[tactic(auto, unfolding(crate::specs::Run::run_call, crate::specs::Run::performed))]
+fn run_call(g: PlaneGuidance, bytes: &[u8]) -> Ran
+    ensures { result ≡ spec.run_call g bytes.now }
+{
+    match read_call(bytes, 0) {
+        Err(why) => refused(g, why),
+        Ok(read) => {
+            let done = perform(g, read.call);
+            Ran {
+                guidance: done.guidance,
+                answer: of_reply(done.reply, read.next),
+            }
+        }
+    }
+}
+
+#[tactic(auto, unfolding(crate::specs::Run::run_config, crate::specs::Run::performed, claims::specs::Calls::perform))]
+fn run_config(g: PlaneGuidance, bytes: &[u8]) -> Ran
+    ensures { result ≡ spec.run_config g bytes.now }
+{
+    match read_config(bytes, 0) {
+        Err(why) => refused(g, why),
+        Ok(read) => judged(g, g.set_config(read.config), read.next),
+    }
+}
+
+#[tactic(auto, unfolding(crate::specs::Run::run_new))]
 fn run_new(g: PlaneGuidance, bytes: &[u8]) -> Ran
     ensures { result ≡ spec.run_new g bytes.now }
 {
-    let read = read_config(bytes, 0);
-    match read {
-        ReadConfig::Refused(n) => Ran {
-            guidance: g,
-            answer: bare(n as u32, 0, 0),
-        },
-        ReadConfig::Read { config, next } => made(g, PlaneGuidance::new(config), next),
+    match read_config(bytes, 0) {
+        Err(why) => refused(g, why),
+        Ok(read) => judged(g, PlaneGuidance::new(read.config), read.next),
     }
 }
 
 // A change taken back (document 02, K11); no byte is read.
+#[tactic(auto, unfolding(crate::specs::Run::run_back, crate::specs::Run::performed, claims::specs::Calls::perform))]
 fn run_back(g: PlaneGuidance) -> Ran
     ensures { result ≡ spec.run_back g }
 {
-    let done = g.take_back();
-    let guidance = done.guidance;
-    Ran {
-        guidance,
-        answer: bare(done.refusal, 0, 0),
+    match g.take_back() {
+        Err(why) => refused(g, why),
+        Ok(guidance) => Ran {
+            guidance,
+            answer: bare(0, 0, 0),
+        },
     }
 }
 
-// Any number but 0; one that no call has is refused.
-fn change(g: PlaneGuidance, what: u32, bytes: &[u8]) -> Ran
-    ensures { result ≡ code.change g what bytes.now }
+// What a number asks for. A call record is a guide or a prime, which the same callers may do.
+#[tactic(auto, unfolding(crate::specs::Run::deed_of))]
+fn deed_of(what: u32) -> Deed
+    ensures { result ≡ spec.deed_of what }
 {
-    if what == 1 {
-        return run_config(g, bytes);
-    }
-    if what == 2 {
-        return run_new(g, bytes);
-    }
-    if what == 3 {
-        return run_back(g);
-    }
-    Ran {
-        guidance: g,
-        answer: bare(255, 0, 0),
+    match what {
+        0 => Deed::Guide,
+        1 => Deed::SetConfig,
+        2 => Deed::New,
+        3 => Deed::TakeBack,
+        _ => Deed::Other,
     }
 }
 
-// A call record is a guide or a prime, which the same callers may do: the right is judged before a byte is read.
-fn may_run(caller: u32, what: u32) -> bool
-    ensures { result ≡ spec.may_run caller what }
+// Any deed of a number but 0.
+fn change(g: PlaneGuidance, deed: Deed, bytes: &[u8]) -> Ran
+    ensures { result ≡ code.change g deed bytes.now }
 {
-    if what == 0 {
-        return may(caller, Deed::Guide);
+    match deed {
+        Deed::SetConfig => run_config(g, bytes),
+        Deed::New => run_new(g, bytes),
+        Deed::TakeBack => run_back(g),
+        _ => refused(g, Refusal::UnknownRequest),
     }
-    if what == 1 {
-        return may(caller, Deed::SetConfig);
-    }
-    if what == 2 {
-        return may(caller, Deed::New);
-    }
-    if what == 3 {
-        return may(caller, Deed::TakeBack);
-    }
-    may(caller, Deed::Other)
 }
 
-// Number 13 comes first, here and below.
+// Number 13 comes first, here and below: the right is judged before a byte is read.
+#[tactic(auto, unfolding(crate::specs::Run::run_by, crate::specs::Run::run, crate::specs::Run::deed_of))]
 pub fn call_by(g: PlaneGuidance, caller: u32, bytes: &[u8]) -> Ran
     ensures { result ≡ spec.run_by g caller 0 bytes.now }
 {
     if may(caller, Deed::Guide) {
-        return run_call(g, bytes);
-    }
-    Ran {
-        guidance: g,
-        answer: bare(13, 0, 0),
+        run_call(g, bytes)
+    } else {
+        refused(g, Refusal::NoRight)
     }
 }
 
+#[tactic(auto, unfolding(crate::specs::Code::Dispatch::change_by))]
 pub fn change_by(g: PlaneGuidance, caller: u32, what: u32, bytes: &[u8]) -> Ran
     ensures { result ≡ code.change_by g caller what bytes.now }
 {
-    if may_run(caller, what) {
-        return change(g, what, bytes);
-    }
-    Ran {
-        guidance: g,
-        answer: bare(13, 0, 0),
+    let deed = deed_of(what);
+    if may(caller, deed) {
+        change(g, deed, bytes)
+    } else {
+        refused(g, Refusal::NoRight)
     }
 }
 
+// What is asked for stays a number in what C calls: no enum of C's is safe to read as ours.
 // A call changes no configuration, neither the one in force nor the kept one, so they are not put back; and since calls have a branch
 // of their own, the kept one is not even read.
 pub fn nuthkolla_run(
@@ -173,13 +157,7 @@ pub fn nuthkolla_run(
 ) -> RunAnswer
     ensures { (guidance.new ≡ (spec.run_by guidance.old caller what bytes.now).guidance) × (result ≡ (spec.run_by guidance.old caller what bytes.now).answer) }
 {
-    let g = PlaneGuidance {
-        config: guidance.config,
-        requested: guidance.requested,
-        altitude: guidance.altitude,
-        tecs: guidance.tecs,
-        former: guidance.former,
-    };
+    let g = *guidance;
     if what == 0 {
         let r = call_by(g, caller, bytes);
         guidance.requested = r.guidance.requested;

@@ -7,6 +7,7 @@ use host_answers::place::{Place, place_of};
 use laws::config::PlaneGuidanceConfig;
 use records::call_writer::write_call;
 use records::config::write_config;
+use refusals::Refusal;
 
 // Writes a call's record at a place; number 7 for a kind above 6 or a regime above 1, number 8 for too little room.
 #[tactic(auto, unfolding(crate::specs::Writing::unknown, crate::specs::Writing::call_place, crate::specs::Writing::call_buffer))]
@@ -16,26 +17,16 @@ pub fn nuthkolla_write_call(out: &mut [u8], at: usize, call: CallNumbers) -> Pla
     let kind = call.kind;
     let regime = call.regime;
     let k = call_of(call);
-    if 6 < kind {
-        return Place {
-            refusal: 7,
-            next: 0,
-        };
+    if (6 < kind) | (1 < regime) {
+        return place_of(Err(Refusal::UnknownKind));
     }
-    if 1 < regime {
-        return Place {
-            refusal: 7,
-            next: 0,
-        };
-    }
-    let written = write_call(out, at, k);
-    place_of(written)
+    place_of(write_call(out, at, k))
 }
 
 // Writes a configuration's record at a place; number 8 for too little room.
+#[tactic(auto, unfolding(crate::specs::Writing::config_place, crate::specs::Writing::config_buffer))]
 pub fn nuthkolla_write_config(out: &mut [u8], at: usize, config: PlaneGuidanceConfig) -> Place
     ensures { (result ≡ spec.config_place config out.old at) × (out.new ≡ spec.config_buffer config out.old at) }
 {
-    let written = write_config(out, at, config);
-    place_of(written)
+    place_of(write_config(out, at, config))
 }

@@ -6,7 +6,8 @@ ghost use Rattle.std.specs.Prelude.{◌≡◌};
 ghost use Rattle.agreement.specs.Agreement.{agreement};
 ghost use Rattle.host_agreement.specs.Agreed as spec;
 
-use agreement::{Agreement, agree};
+use agreement::{Agreement, Refused, Side, agree};
+use compaction::BadRecording;
 
 // agree: 1 where they agree; else box_call and display_call: the numbers of the calls at which they part, 0 in both for the
 // configuration, 0 where no call is left. whose: 0, or 1 for the box's recording, 2 for the display's, with what refused it:
@@ -23,53 +24,68 @@ pub struct Agreed {
     pub call: u32,
 }
 
-fn agreed_of(answer: Agreement) -> Agreed
+// Two recordings that were compared: none is refused.
+fn compared(agree: u32, box_call: u32, display_call: u32) -> Agreed
+    ensures { result ≡ spec.compared agree box_call display_call }
+{
+    Agreed {
+        agree,
+        box_call,
+        display_call,
+        whose: 0,
+        refusal: 0,
+        field: 0,
+        call: 0,
+    }
+}
+
+fn whose_of(side: Side) -> u32
+    ensures { result ≡ spec.whose_of side }
+{
+    match side {
+        Side::Box => 1,
+        Side::Display => 2,
+    }
+}
+
+// A recording that is refused: none was compared.
+fn stopped(side: Side, refusal: u32, field: u32, call: u32) -> Agreed
+    ensures { result ≡ spec.stopped side refusal «field» call }
+{
+    Agreed {
+        agree: 0,
+        box_call: 0,
+        display_call: 0,
+        whose: whose_of(side),
+        refusal,
+        field,
+        call,
+    }
+}
+
+fn refused_of(refused: Refused) -> Agreed
+    ensures { result ≡ spec.refused_of refused }
+{
+    match refused.why {
+        BadRecording::InvalidConfig(invalid) => stopped(refused.side, 1, invalid.field, 0),
+        BadRecording::Config(why) => stopped(refused.side, why.number(), 0, 0),
+        BadRecording::Call { number, why } => stopped(refused.side, why.number(), 0, number),
+    }
+}
+
+fn agreed_of(answer: Result<Agreement, Refused>) -> Agreed
     ensures { result ≡ spec.agreed_of answer }
 {
     match answer {
-        Agreement::Agree => Agreed {
-            agree: 1,
-            box_call: 0,
-            display_call: 0,
-            whose: 0,
-            refusal: 0,
-            field: 0,
-            call: 0,
-        },
-        Agreement::Part {
-            box_call,
-            display_call,
-        } => Agreed {
-            agree: 0,
-            box_call,
-            display_call,
-            whose: 0,
-            refusal: 0,
-            field: 0,
-            call: 0,
-        },
-        Agreement::Refused { whose, field } => Agreed {
-            agree: 0,
-            box_call: 0,
-            display_call: 0,
-            whose,
-            refusal: 1,
-            field,
-            call: 0,
-        },
-        Agreement::Stopped {
-            whose,
-            number,
-            refusal,
-        } => Agreed {
-            agree: 0,
-            box_call: 0,
-            display_call: 0,
-            whose,
-            refusal,
-            field: 0,
-            call: number,
-        },
+        Ok(Agreement::Agree) => compared(1, 0, 0),
+        Ok(Agreement::PartAtConfig) => compared(0, 0, 0),
+        Ok(
+            Agreement::Part {
+                box_call,
+                display_call,
+            },
+        ) => compared(0, box_call.unwrap_or(0), display_call.unwrap_or(0)),
+        Err(refused) => refused_of(refused),
     }
 }
 

@@ -1,9 +1,9 @@
 -- A guide call keeps the configuration in force and the kept one, so that a function by reference need not put them back.
 -- Assumes nothing.
+use Rattle.std.specs.Prelude.{Option, Float}
 use mathlib.Core.Path.{◌≡◌, refl}
 use mathlib.Core.Bool.{Bool, true, false, cond}
 use lib.Ieee.{Float}
-use Rattle.laws.specs.declared.types.OptionF32.{OptionF32}
 use Rattle.laws.specs.declared.types.FlightRegime.{FlightRegime}
 use Rattle.laws.specs.declared.types.ControlInput.{ControlInput}
 use Rattle.laws.specs.declared.types.ControlInput.TheVariants as Input
@@ -17,7 +17,7 @@ either : (b : Bool) (x y : Guided) {t : Settings} → settings_of x.guidance ≡
 either true x y p q = p
 either false x y p q = q
 
-obeyed_keeps : (g : PlaneGuidance) (dt : Float) (r : FlightRegime) (k : ControlInput) (s : VehicleState) (cap : OptionF32)
+obeyed_keeps : (g : PlaneGuidance) (dt : Float) (r : FlightRegime) (k : ControlInput) (s : VehicleState) (cap : Option Float)
     → settings_of (obeyed g dt r k s cap).guidance ≡ settings_of g
 unfolding obeyed commanded cleared waypoint
 obeyed_keeps g dt r (Input.Attitude k) s cap = refl
@@ -27,7 +27,7 @@ obeyed_keeps g dt r (Input.AbsoluteAttitude k) s cap = refl
 obeyed_keeps g dt r Input.Land s cap = refl
 obeyed_keeps g dt r (Input.AbsoluteRate k) s cap = refl
 
-pub guided_keeps : (g : PlaneGuidance) (dt : Float) (r : FlightRegime) (k : ControlInput) (s : VehicleState) (cap : OptionF32)
+pub guided_keeps : (g : PlaneGuidance) (dt : Float) (r : FlightRegime) (k : ControlInput) (s : VehicleState) (cap : Option Float)
     → settings_of (guided g dt r k s cap).guidance ≡ settings_of g
 unfolding guided
 guided_keeps g dt r k s cap = either (bad_time_step dt) _ _ refl (obeyed_keeps g dt r k s cap)

@@ -1,5 +1,7 @@
 -- Document 01's number and values of each answer, as a host gets them. Definitions only.
-use Rattle.std.specs.Prelude.{ℕ, cond, eqb, Float}
+use Rattle.std.specs.Prelude.{ℕ, cond, eqb, Float, Result, Ok, Err}
+use Rattle.refusals.specs.Numbers.{number}
+use Rattle.refusals.specs.declared.Refusal.{Refusal}
 use Rattle.arithmetic.specs.Constants.{n0}
 use Rattle.laws.specs.declared.types.Setpoint.{Setpoint}
 use Rattle.laws.specs.declared.types.Setpoint.TheVariants as Set
@@ -9,7 +11,7 @@ use Rattle.guidance.specs.declared.plane.LateralLaw.TheVariants.{Track, Loiter, 
 use Rattle.guidance.specs.declared.plane.VerticalLaw.{VerticalLaw}
 use Rattle.guidance.specs.declared.plane.VerticalLaw.TheVariants.{Energy, Hold, Fallback}
 use Rattle.guidance.specs.declared.plane.Answer.{Answer}
-use Rattle.guidance.specs.declared.plane.Answer.TheVariants.{Refused, Commanded, Waypoint}
+use Rattle.guidance.specs.declared.plane.Answer.TheVariants.{Commanded, Waypoint}
 use Rattle.host_answers.specs.declared.answer.RunAnswer.{RunAnswer}
 
 -- no setpoint: a refusal's number, of number 1 its field, and the place after the record
@@ -70,10 +72,10 @@ of_setpoint (Set.PlaneRate roll pitch yaw thrust) lateral vertical off next = re
 }
 
 -- a refusal with its number; a setpoint; a waypoint's setpoint with its two laws and the distance off its line, else +0
-abbrev pub of_answer : Answer → ℕ → RunAnswer
-of_answer (Refused n) next = bare n 0 next
-of_answer (Commanded s) next = of_setpoint s 0 0 n0 next
-of_answer (Waypoint a) next =
+abbrev pub of_answer : Result Answer Refusal → ℕ → RunAnswer
+of_answer (Err why) next = bare (number why) 0 next
+of_answer (Ok (Commanded s)) next = of_setpoint s 0 0 n0 next
+of_answer (Ok (Waypoint a)) next =
     of_setpoint a.setpoint (lateral_number a.laws.lateral) (vertical_number a.laws.vertical) a.cross_track_m next
 
 -- number 1 with its field, where a field fails

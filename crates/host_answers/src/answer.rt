@@ -5,7 +5,9 @@ ghost use Rattle.host_answers.specs.Answer as spec;
 
 use calls::Reply;
 use guidance::plane::{Answer, LateralLaw, VerticalLaw};
+use laws::config::InvalidConfig;
 use laws::types::Setpoint;
+use refusals::Refusal;
 
 // refusal: 0 or the refusal's number; field: of number 1, the failing field; setpoint: 0 none, 1 plane, 2 plane rate;
 // lateral: 0 none, 1 track, 2 loiter, 3 idle; vertical: 0 none, 1 energy, 2 hold, 3 fallback; yaw is +0 in a plane setpoint;
@@ -28,6 +30,7 @@ pub struct RunAnswer {
 }
 
 // An answer without a setpoint.
+#[tactic(auto, unfolding(crate::specs::Answer::bare))]
 pub fn bare(refusal: u32, field: u32, next: usize) -> RunAnswer
     ensures { result ≡ spec.bare refusal «field» next }
 {
@@ -114,25 +117,20 @@ fn of_setpoint(
     }
 }
 
-pub fn of_answer(answer: Answer, next: usize) -> RunAnswer
+// No From here and below: the place after the record comes with the answer, and a pair would be no plainer.
+pub fn of_answer(answer: Result<Answer, Refusal>, next: usize) -> RunAnswer
     ensures { result ≡ spec.of_answer answer next }
 {
     match answer {
-        Answer::Refused(n) => bare(n, 0, next),
-        Answer::Commanded(setpoint) => of_setpoint(setpoint, 0, 0, 0.0, next),
-        Answer::Waypoint(w) => {
-            let setpoint = w.setpoint;
-            let laws = w.laws;
-            let lateral = laws.lateral;
-            let vertical = laws.vertical;
-            of_setpoint(
-                setpoint,
-                lateral_number(lateral),
-                vertical_number(vertical),
-                w.cross_track_m,
-                next,
-            )
-        }
+        Err(why) => bare(why.number(), 0, next),
+        Ok(Answer::Commanded(setpoint)) => of_setpoint(setpoint, 0, 0, 0.0, next),
+        Ok(Answer::Waypoint(w)) => of_setpoint(
+            w.setpoint,
+            lateral_number(w.laws.lateral),
+            vertical_number(w.laws.vertical),
+            w.cross_track_m,
+            next,
+        ),
     }
 }
 
@@ -145,13 +143,9 @@ pub fn of_reply(reply: Reply, next: usize) -> RunAnswer
     }
 }
 
-// What set-configuration and `new` answer: 0 or the failing field.
-pub fn of_field(field: u32, next: usize) -> RunAnswer
-    ensures { result ≡ spec.of_field «field» next }
+// A configuration that is refused, with its failing field.
+pub fn of_invalid(invalid: InvalidConfig, next: usize) -> RunAnswer
+    ensures { result ≡ spec.bare 1 invalid.field next }
 {
-    if field == 0 {
-        bare(0, 0, next)
-    } else {
-        bare(1, field, next)
-    }
+    bare(1, invalid.field, next)
 }

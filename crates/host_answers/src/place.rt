@@ -2,7 +2,7 @@
 ghost use Rattle.std.specs.Prelude.{◌≡◌};
 ghost use Rattle.host_answers.specs.Place as spec;
 
-use fields::Written;
+use refusals::Refusal;
 
 // refusal: 0 or the refusal's number; next: the place after the record, 0 where there is none.
 #[repr(C)]
@@ -12,13 +12,14 @@ pub struct Place {
     pub next: usize,
 }
 
-pub fn place_of(written: Written) -> Place
+// No From: each caller would have to name the type that it turns into, and this name says it.
+pub fn place_of(written: Result<usize, Refusal>) -> Place
     ensures { result ≡ spec.place_of written }
 {
     match written {
-        Written::Next(next) => Place { refusal: 0, next },
-        Written::Refused(n) => Place {
-            refusal: n as u32,
+        Ok(next) => Place { refusal: 0, next },
+        Err(why) => Place {
+            refusal: why.number(),
             next: 0,
         },
     }

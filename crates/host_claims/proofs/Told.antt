@@ -1,5 +1,7 @@
 -- Inputs as calls: a run of inputs is a run of the calls that they carry. Assumes nothing.
 use Prim.Native.Nat.{ℕ}
+use Rattle.std.specs.Prelude.{Result, Ok, Err}
+use Rattle.refusals.specs.declared.Refusal.{Refusal}
 use mathlib.Core.Path.{◌≡◌, refl, sym, ap, subst, ◌∙◌}
 use mathlib.Core.Bool.{Bool, true, false, cond, not}
 use mathlib.Core.List.{List, [], ◌∷◌, ◌++◌}
@@ -13,16 +15,13 @@ use Rattle.laws.specs.declared.types.Setpoint.TheVariants as Set
 use Rattle.laws.specs.Config.{validate}
 use Rattle.guidance.specs.Plane.{fresh, created}
 use Rattle.guidance.specs.declared.plane.PlaneGuidance.{PlaneGuidance}
-use Rattle.guidance.specs.declared.plane.Created.TheVariants as New
-use Rattle.guidance.specs.declared.plane.Answer.TheVariants.{Refused, Commanded, Waypoint}
+use Rattle.guidance.specs.declared.plane.Answer.TheVariants.{Commanded, Waypoint}
 use Rattle.claims.specs.Calls.{Call, take_back, perform, Reply, answered, done, field, back, replies, after, refusals, strikes, unmarked, struck, fell_back}
 use Rattle.claims.specs.Calls as calls
 use Rattle.records.specs.Call.{read_call}
 use Rattle.records.specs.Config.{read_config}
 use Rattle.records.specs.declared.call.ReadCall.{ReadCall}
-use Rattle.records.specs.declared.call.ReadCall.TheVariants as call
 use Rattle.records.specs.declared.config.ReadConfig.{ReadConfig}
-use Rattle.records.specs.declared.config.ReadConfig.TheVariants as config
 use Rattle.host_answers.specs.Answer.{bare, of_setpoint, of_field, of_reply}
 use Rattle.rights.specs.Rights.{may}
 use Rattle.host.specs.Run.{unchanged, performed, made, of_call, of_config, of_new, run_call, run_config, run_new, run_back, run, deed_of, run_by}
@@ -63,34 +62,34 @@ run_as g (a_call k next) = performed g k next
 run_as g (a_fresh c next) = record { guidance = fresh c; answer = bare 0 0 next }
 run_as g (refused_as n failing next) = unchanged g n failing next
 
-call_is : (g : PlaneGuidance) (r : ReadCall) → of_call g r ≡ run_as g (call_meaning r)
-call_is g (call.Refused n) = refl
-call_is g (call.Read k next) = refl
+call_is : (g : PlaneGuidance) (r : Result ReadCall Refusal) → of_call g r ≡ run_as g (call_meaning r)
+call_is g (Err why) = refl
+call_is g (Ok r) = refl
 
-config_is : (g : PlaneGuidance) (r : ReadConfig) → of_config g r ≡ run_as g (config_meaning r)
-config_is g (config.Refused n) = refl
-config_is g (config.Read c next) = refl
+config_is : (g : PlaneGuidance) (r : Result ReadConfig Refusal) → of_config g r ≡ run_as g (config_meaning r)
+config_is g (Err why) = refl
+config_is g (Ok r) = refl
 
 made_is : (g : PlaneGuidance) (c : PlaneGuidanceConfig) (next : ℕ) → made g (created c) next ≡ run_as g (new_of c next (created c))
 unfolding created
 made_is g c next = go (eqb (validate c) 0)
   where
-    go : (b : Bool) → made g (cond b (New.Made (fresh c)) (New.Refused (validate c))) next ≡ run_as g (new_of c next (cond b (New.Made (fresh c)) (New.Refused (validate c))))
+    go : (b : Bool) → made g (cond b (Ok (fresh c)) (Err (record { field = validate c }))) next ≡ run_as g (new_of c next (cond b (Ok (fresh c)) (Err (record { field = validate c }))))
     go true = refl
     go false = refl
 
-new_is : (g : PlaneGuidance) (r : ReadConfig) → of_new g r ≡ run_as g (new_meaning r)
-new_is g (config.Refused n) = refl
-new_is g (config.Read c next) = made_is g c next
+new_is : (g : PlaneGuidance) (r : Result ReadConfig Refusal) → of_new g r ≡ run_as g (new_meaning r)
+new_is g (Err why) = refl
+new_is g (Ok r) = made_is g r.config r.next
 
 asked_is : (g : PlaneGuidance) (i : Input) → run g i.what i.bytes ≡ run_as g (asked i)
 unfolding run run_call run_config run_new run_back asked
 asked_is g i = go (eqb i.what 0) (eqb i.what 1) (eqb i.what 2) (eqb i.what 3)
   where
-    r : ReadCall
+    r : Result ReadCall Refusal
     r = read_call i.bytes 0
 
-    s : ReadConfig
+    s : Result ReadConfig Refusal
     s = read_config i.bytes 0
 
     go : (a b c d : Bool) →
@@ -117,9 +116,9 @@ setpoint_accepted (Set.PlaneRate roll pitch yaw thrust) lateral vertical off nex
 
 pub refused_is : (r : Reply) (next : ℕ) → refused (of_reply r next) ≡ calls.refused r
 unfolding bare of_field
-refused_is (answered (Refused n)) next = refl
-refused_is (answered (Commanded t)) next = ap (λ (n : ℕ). not (eqb n 0)) (setpoint_accepted t 0 0 n0 next)
-refused_is (answered (Waypoint a)) next = ap (λ (n : ℕ). not (eqb n 0)) (setpoint_accepted a.setpoint _ _ _ next)
+refused_is (answered (Err why)) next = refl
+refused_is (answered (Ok (Commanded t))) next = ap (λ (n : ℕ). not (eqb n 0)) (setpoint_accepted t 0 0 n0 next)
+refused_is (answered (Ok (Waypoint a))) next = ap (λ (n : ℕ). not (eqb n 0)) (setpoint_accepted a.setpoint _ _ _ next)
 refused_is done next = refl
 refused_is (back n) next = refl
 refused_is (field n) next = go (eqb n 0)
@@ -290,21 +289,21 @@ new_passes : (c : PlaneGuidanceConfig) (next : ℕ) → Passes (new_of c next (c
 unfolding created
 new_passes c next = go (eqb (validate c) 0) refl
   where
-    go : (b : Bool) → eqb (validate c) 0 ≡ b → Passes (new_of c next (cond b (New.Made (fresh c)) (New.Refused (validate c))))
+    go : (b : Bool) → eqb (validate c) 0 ≡ b → Passes (new_of c next (cond b (Ok (fresh c)) (Err (record { field = validate c }))))
     go true e = eqb-true (validate c) 0 e
     go false e = tt
 
-call_passes : (r : ReadCall) → Passes (call_meaning r)
-call_passes (call.Refused n) = tt
-call_passes (call.Read k next) = tt
+call_passes : (r : Result ReadCall Refusal) → Passes (call_meaning r)
+call_passes (Err why) = tt
+call_passes (Ok r) = tt
 
-config_passes : (r : ReadConfig) → Passes (config_meaning r)
-config_passes (config.Refused n) = tt
-config_passes (config.Read c next) = tt
+config_passes : (r : Result ReadConfig Refusal) → Passes (config_meaning r)
+config_passes (Err why) = tt
+config_passes (Ok r) = tt
 
-made_passes : (r : ReadConfig) → Passes (new_meaning r)
-made_passes (config.Refused n) = tt
-made_passes (config.Read c next) = new_passes c next
+made_passes : (r : Result ReadConfig Refusal) → Passes (new_meaning r)
+made_passes (Err why) = tt
+made_passes (Ok r) = new_passes r.config r.next
 
 asked_passes : (i : Input) → Passes (asked i)
 unfolding asked
@@ -313,7 +312,7 @@ asked_passes i = go (eqb i.what 0) (eqb i.what 1) (eqb i.what 2) (eqb i.what 3)
     called : Meaning
     called = call_meaning (read_call i.bytes 0)
 
-    read : ReadConfig
+    read : Result ReadConfig Refusal
     read = read_config i.bytes 0
 
     go : (x y z b : Bool) →

@@ -1,17 +1,17 @@
 -- What a host hands to `nuthkolla_run`, one after the other, on one guidance. Definitions only.
-use Rattle.std.specs.Prelude.{ℕ, Bool, true, false, cond, not, List, [], ◌∷◌, eqb}
+use Rattle.std.specs.Prelude.{ℕ, Bool, true, false, cond, not, List, [], ◌∷◌, eqb, Result, Ok, Err}
+use Rattle.refusals.specs.Numbers.{number}
+use Rattle.refusals.specs.declared.Refusal.{Refusal}
+use Rattle.refusals.specs.declared.Refusal.TheVariants as why
+use Rattle.laws.specs.declared.config.InvalidConfig.{InvalidConfig}
 use Rattle.laws.specs.declared.config.PlaneGuidanceConfig.{PlaneGuidanceConfig}
 use Rattle.guidance.specs.Plane.{created}
 use Rattle.guidance.specs.declared.plane.PlaneGuidance.{PlaneGuidance}
-use Rattle.guidance.specs.declared.plane.Created.{Created}
-use Rattle.guidance.specs.declared.plane.Created.TheVariants as New
 use Rattle.claims.specs.Calls.{Call, set_config, take_back, Reply, struck, fell_back}
 use Rattle.records.specs.Call.{read_call}
 use Rattle.records.specs.Config.{read_config}
 use Rattle.records.specs.declared.call.ReadCall.{ReadCall}
-use Rattle.records.specs.declared.call.ReadCall.TheVariants as call
 use Rattle.records.specs.declared.config.ReadConfig.{ReadConfig}
-use Rattle.records.specs.declared.config.ReadConfig.TheVariants as config
 use Rattle.calls.specs.Calls.{call_of}
 use Rattle.host_answers.specs.Answer.{bare, of_reply}
 use Rattle.rights.specs.Rights.{may}
@@ -34,21 +34,21 @@ pub data Meaning : Type 0 where
   a_fresh : PlaneGuidanceConfig → ℕ → Meaning
   refused_as : ℕ → ℕ → ℕ → Meaning
 
-abbrev pub call_meaning : ReadCall → Meaning
-call_meaning (call.Refused n) = refused_as n 0 0
-call_meaning (call.Read k next) = a_call (call_of k) next
+abbrev pub call_meaning : Result ReadCall Refusal → Meaning
+call_meaning (Err why) = refused_as (number why) 0 0
+call_meaning (Ok r) = a_call (call_of r.call) r.next
 
-abbrev pub config_meaning : ReadConfig → Meaning
-config_meaning (config.Refused n) = refused_as n 0 0
-config_meaning (config.Read c next) = a_call (set_config c) next
+abbrev pub config_meaning : Result ReadConfig Refusal → Meaning
+config_meaning (Err why) = refused_as (number why) 0 0
+config_meaning (Ok r) = a_call (set_config r.config) r.next
 
-abbrev pub new_of : PlaneGuidanceConfig → ℕ → Created → Meaning
-new_of c next (New.Refused failing) = refused_as 1 failing next
-new_of c next (New.Made g) = a_fresh c next
+abbrev pub new_of : PlaneGuidanceConfig → ℕ → Result PlaneGuidance InvalidConfig → Meaning
+new_of c next (Err invalid) = refused_as 1 invalid.field next
+new_of c next (Ok g) = a_fresh c next
 
-abbrev pub new_meaning : ReadConfig → Meaning
-new_meaning (config.Refused n) = refused_as n 0 0
-new_meaning (config.Read c next) = new_of c next (created c)
+abbrev pub new_meaning : Result ReadConfig Refusal → Meaning
+new_meaning (Err why) = refused_as (number why) 0 0
+new_meaning (Ok r) = new_of r.config r.next (created r.config)
 
 -- of a caller who has the right
 unfoldable pub asked : Input → Meaning
@@ -57,10 +57,10 @@ asked i =
     (cond (eqb i.what 1) (config_meaning (read_config i.bytes 0))
     (cond (eqb i.what 2) (new_meaning (read_config i.bytes 0))
     (cond (eqb i.what 3) (a_call take_back 0)
-    (refused_as 255 0 0))))
+    (refused_as (number why.UnknownRequest) 0 0))))
 
 unfoldable pub meaning : Input → Meaning
-meaning i = cond (may i.caller (deed_of i.what)) (asked i) (refused_as 13 0 0)
+meaning i = cond (may i.caller (deed_of i.what)) (asked i) (refused_as (number why.NoRight) 0 0)
 
 -- ---- a run: each input gets the guidance that the one before it left
 

@@ -6,6 +6,7 @@ ghost use Rattle.std.specs.Prelude.{◌≡◌};
 ghost use Rattle.host_editions.specs.Conversion as spec;
 
 use editions::{Converted, Edition, convert};
+use refusals::Refusal;
 
 // refusal: 0 or the refusal's number; read, written: the places after the record that was read and after the one that was
 // written, 0 where there is a refusal.
@@ -17,23 +18,26 @@ pub struct Conversion {
     pub written: usize,
 }
 
-fn conversion_of(answer: Converted) -> Conversion
+// As host_answers' `place_of`, no From.
+fn conversion_of(answer: Result<Converted, Refusal>) -> Conversion
     ensures { result ≡ spec.conversion_of answer }
 {
     match answer {
-        Converted::Places { read, written } => Conversion {
+        Ok(done) => Conversion {
             refusal: 0,
-            read,
-            written,
+            read: done.read,
+            written: done.written,
         },
-        Converted::Refused(number) => Conversion {
-            refusal: number as u32,
+        Err(why) => Conversion {
+            refusal: why.number(),
             read: 0,
             written: 0,
         },
     }
 }
 
+// The edition stays a number for C.
+#[tactic(auto, using(crate::proofs::Editions::answer_by, crate::proofs::Editions::buffer_by))]
 pub fn nuthkolla_convert_record(
     bytes: &[u8],
     at: usize,
@@ -43,17 +47,8 @@ pub fn nuthkolla_convert_record(
 ) -> Conversion
     ensures { (result ≡ spec.conversion edition bytes.now at out.old place) × (out.new ≡ spec.buffer_after edition bytes.now at out.old place) }
 {
-    if edition == 1 {
-        let first = convert(bytes, at, Edition::First, out, place);
-        return conversion_of(first);
-    }
-    if edition == 2 {
-        let second = convert(bytes, at, Edition::Second, out, place);
-        return conversion_of(second);
-    }
-    Conversion {
-        refusal: 255,
-        read: 0,
-        written: 0,
+    match Edition::from_number(edition) {
+        Some(wanted) => conversion_of(convert(bytes, at, wanted, out, place)),
+        None => conversion_of(Err(Refusal::UnknownRequest)),
     }
 }

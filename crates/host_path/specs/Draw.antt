@@ -1,15 +1,34 @@
 -- The drawn path for a host: a waypoint call as numbers, and no other command. Definitions only.
-use Rattle.std.specs.Prelude.{ℕ, cond, List, eqb, ltb, Float}
+use Rattle.std.specs.Prelude.{ℕ, cond, List, eqb, ltb, Float, Option, Some, None, Result, Ok, Err}
+use Rattle.refusals.specs.Numbers.{number}
+use Rattle.refusals.specs.declared.Refusal.{Refusal}
+use Rattle.refusals.specs.declared.Refusal.TheVariants as why
 use Rattle.guidance.specs.declared.plane.PlaneGuidance.{PlaneGuidance}
-use Rattle.path.specs.Path.{refused_with, answer, buffer}
-use Rattle.path.specs.declared.draw.Drawn.{Drawn}
+use Rattle.path.specs.Model.{stop_number}
+use Rattle.path.specs.Path.{answer, buffer}
+use Rattle.path.specs.declared.draw.Drawn.{Drawn as Path}
+use Rattle.path.specs.declared.draw.Stopped.{Stopped}
+use Rattle.host_path.specs.declared.Drawn.{Drawn}
 use Rattle.call_numbers.specs.Call.{waypoint_call}
 use Rattle.call_numbers.specs.declared.CallNumbers.{CallNumbers}
+
+-- a refusal with its number: nothing is drawn
+abbrev pub refused : Refusal → Drawn
+refused why = record { refusal = number why; reason = 0; drawn = 0; stopped = 0 }
+
+-- a step that stopped the path: its refusal's number, 0 for a number that is not finite
+abbrev pub ended : ℕ → Option Stopped → Drawn
+ended drawn None = record { refusal = 0; reason = 0; drawn = drawn; stopped = 0 }
+ended drawn (Some s) = record { refusal = 0; reason = stop_number s.why; drawn = drawn; stopped = s.step }
+
+abbrev pub drawn_of : Result Path Refusal → Drawn
+drawn_of (Err why) = refused why
+drawn_of (Ok p) = ended p.drawn p.stopped
 
 -- 255 for another kind, 7 for a regime above 1, before 12 and 8; by how many numbers the buffer has
 unfoldable pub path_answer : PlaneGuidance → CallNumbers → ℕ → ℕ → Drawn
 path_answer g k steps room =
-    cond (eqb k.kind 3) (cond (ltb 1 k.regime) (refused_with 7) (answer g (waypoint_call k) steps room)) (refused_with 255)
+    cond (eqb k.kind 3) (cond (ltb 1 k.regime) (refused why.UnknownKind) (drawn_of (answer g (waypoint_call k) steps room))) (refused why.UnknownRequest)
 
 -- every refusal keeps the buffer
 unfoldable pub path_buffer : PlaneGuidance → CallNumbers → ℕ → List Float → List Float

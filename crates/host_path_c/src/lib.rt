@@ -6,7 +6,7 @@ ghost use Rattle.host_path.specs.Draw as spec;
 
 use call_numbers::CallNumbers;
 use guidance::plane::PlaneGuidance;
-use path::draw::Drawn;
+use host_path::Drawn;
 
 #[unsafe(no_mangle)]
 pub extern "C" fn nuthkolla_draw_path(

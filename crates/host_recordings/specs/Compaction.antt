@@ -1,9 +1,12 @@
 -- A compaction's answer as numbers. Definitions only.
-use Rattle.compaction.specs.declared.Compacted.{Compacted}
-use Rattle.compaction.specs.declared.Compacted.TheVariants as answer
+use Rattle.std.specs.Prelude.{ℕ, Result, Ok, Err}
+use Rattle.refusals.specs.Numbers.{number}
+use Rattle.compaction.specs.declared.BadRecording.{BadRecording}
+use Rattle.compaction.specs.declared.BadRecording.TheVariants as bad
 use Rattle.host_recordings.specs.declared.Compaction.{Compaction}
 
-abbrev pub compaction_of : Compacted → Compaction
-compaction_of (answer.Length n) = record { refusal = 0; field = 0; call = 0; length = n }
-compaction_of (answer.Refused f) = record { refusal = 1; field = f; call = 0; length = 0 }
-compaction_of (answer.Stopped n r) = record { refusal = r; field = 0; call = n; length = 0 }
+abbrev pub compaction_of : Result ℕ BadRecording → Compaction
+compaction_of (Ok n) = record { refusal = 0; field = 0; call = 0; length = n }
+compaction_of (Err (bad.InvalidConfig invalid)) = record { refusal = 1; field = invalid.field; call = 0; length = 0 }
+compaction_of (Err (bad.Config why)) = record { refusal = number why; field = 0; call = 0; length = 0 }
+compaction_of (Err (bad.Call n why)) = record { refusal = number why; field = 0; call = n; length = 0 }

@@ -8,7 +8,7 @@ ghost use Rattle.replay.specs.Recording.{recording};
 ghost use Rattle.compaction.specs.Compaction.{compacted, bytes_after};
 ghost use Rattle.host_recordings.specs.Compaction as spec;
 
-use compaction::{Compacted, compact};
+use compaction::{BadRecording, compact};
 
 // refusal: 0 or the refusal's number; field: of refusal 1 the failing field's number; call: the number of the call whose
 // record was refused, 0 for the configuration; length: the new length, 0 where the recording was refused.
@@ -21,24 +21,30 @@ pub struct Compaction {
     pub length: usize,
 }
 
-fn compaction_of(answer: Compacted) -> Compaction
+fn compaction_of(answer: Result<usize, BadRecording>) -> Compaction
     ensures { result ≡ spec.compaction_of answer }
 {
     match answer {
-        Compacted::Length(length) => Compaction {
+        Ok(length) => Compaction {
             refusal: 0,
             field: 0,
             call: 0,
             length,
         },
-        Compacted::Refused(field) => Compaction {
+        Err(BadRecording::InvalidConfig(invalid)) => Compaction {
             refusal: 1,
-            field,
+            field: invalid.field,
             call: 0,
             length: 0,
         },
-        Compacted::Stopped { number, refusal } => Compaction {
-            refusal,
+        Err(BadRecording::Config(why)) => Compaction {
+            refusal: why.number(),
+            field: 0,
+            call: 0,
+            length: 0,
+        },
+        Err(BadRecording::Call { number, why }) => Compaction {
+            refusal: why.number(),
             field: 0,
             call: number,
             length: 0,

@@ -4,11 +4,11 @@ ghost use Rattle.std.specs.Prelude.{◌≡◌};
 ghost use Rattle.host_routes.specs.Route as spec;
 
 use call_numbers::{option_of, regime_of};
-use fields::Written;
 use guidance::plane::PlaneGuidance;
 use host_answers::answer::{RunAnswer, bare, of_answer};
 use host_answers::place::{Place, place_of};
 use laws::types::{Vec3, VehicleState};
+use refusals::Refusal;
 use rights::{Deed, may};
 use route_records::{Loaded, load_route, write_route};
 use routes::{Route, RouteCall, fly};
@@ -56,18 +56,19 @@ pub struct RouteRan {
     pub answer: RouteAnswer,
 }
 
-fn loaded_of(loaded: Loaded) -> RouteLoaded
+// As `place_of`, no From.
+fn loaded_of(loaded: Result<Loaded, Refusal>) -> RouteLoaded
     ensures { result ≡ spec.loaded_of loaded }
 {
     match loaded {
-        Loaded::Read { map, next } => RouteLoaded {
+        Ok(route) => RouteLoaded {
             refusal: 0,
             number: 1,
-            map,
-            next,
+            map: route.map,
+            next: route.next,
         },
-        Loaded::Refused(n) => RouteLoaded {
-            refusal: n as u32,
+        Err(why) => RouteLoaded {
+            refusal: why.number(),
             number: 0,
             map: 0,
             next: 0,
@@ -76,6 +77,7 @@ fn loaded_of(loaded: Loaded) -> RouteLoaded
 }
 
 // Number 13 comes before every other check here and below, of the bytes too.
+#[tactic(auto, unfolding(crate::specs::Route::load_by, crate::specs::Route::load_buffer_by))]
 pub fn nuthkolla_load_route(
     caller: u32,
     bytes: &[u8],
@@ -87,9 +89,10 @@ pub fn nuthkolla_load_route(
     if may(caller, Deed::LoadRoute) {
         return loaded_of(load_route(bytes, at, numbers));
     }
-    loaded_of(Loaded::Refused(13))
+    loaded_of(Err(Refusal::NoRight))
 }
 
+#[tactic(auto, unfolding(crate::specs::Route::write_by, crate::specs::Route::write_buffer_by))]
 pub fn nuthkolla_write_route(
     caller: u32,
     out: &mut [u8],
@@ -102,7 +105,7 @@ pub fn nuthkolla_write_route(
     if may(caller, Deed::WriteRoute) {
         return place_of(write_route(out, at, map, numbers));
     }
-    place_of(Written::Refused(13))
+    place_of(Err(Refusal::NoRight))
 }
 
 // The route and the call of a host's numbers.
@@ -115,64 +118,61 @@ fn route_of(k: RouteNumbers) -> Route
     }
 }
 
+#[tactic(auto, unfolding(crate::specs::Route::route_call_of))]
 fn route_call_of(k: RouteNumbers) -> RouteCall
     ensures { result ≡ spec.route_call_of k }
 {
-    let regime = regime_of(k.regime);
-    let airspeed_mps = option_of(k.has_airspeed, k.airspeed_mps);
-    let cap = option_of(k.has_cap, k.pitch_cap_rad);
-    let position_m = k.position_m;
-    let velocity_mps = k.velocity_mps;
     RouteCall {
         dt: k.dt,
-        regime,
+        regime: regime_of(k.regime),
         state: VehicleState {
-            position_m,
-            velocity_mps,
+            position_m: k.position_m,
+            velocity_mps: k.velocity_mps,
             roll_rad: k.roll_rad,
-            airspeed_mps,
+            airspeed_mps: option_of(k.has_airspeed, k.airspeed_mps),
         },
-        cap,
+        cap: option_of(k.has_cap, k.pitch_cap_rad),
     }
 }
 
+// A refused call, which keeps the guidance and the route's number.
+fn refused(g: PlaneGuidance, k: RouteNumbers, why: Refusal) -> RouteRan
+    ensures { result ≡ spec.refused g k why }
+{
+    RouteRan {
+        guidance: g,
+        answer: RouteAnswer {
+            answer: bare(why.number(), 0, 0),
+            number: k.number,
+        },
+    }
+}
+
+#[tactic(auto, unfolding(crate::specs::Route::run_route))]
 pub fn run_route(g: PlaneGuidance, k: RouteNumbers, numbers: &[f32]) -> RouteRan
     ensures { result ≡ spec.run_route g k numbers.now }
 {
     if 1 < k.regime {
-        return RouteRan {
-            guidance: g,
-            answer: RouteAnswer {
-                answer: bare(7, 0, 0),
-                number: k.number,
-            },
-        };
+        return refused(g, k, Refusal::UnknownKind);
     }
     let done = fly(g, route_of(k), numbers, route_call_of(k));
-    let guidance = done.guidance;
-    let answer = done.answer;
     RouteRan {
-        guidance,
+        guidance: done.guidance,
         answer: RouteAnswer {
-            answer: of_answer(answer, 0),
+            answer: of_answer(done.answer, 0),
             number: done.number,
         },
     }
 }
 
+#[tactic(auto, unfolding(crate::specs::Route::run_route_by))]
 pub fn run_route_by(g: PlaneGuidance, caller: u32, k: RouteNumbers, numbers: &[f32]) -> RouteRan
     ensures { result ≡ spec.run_route_by g caller k numbers.now }
 {
     if may(caller, Deed::RouteCall) {
         return run_route(g, k, numbers);
     }
-    RouteRan {
-        guidance: g,
-        answer: RouteAnswer {
-            answer: bare(13, 0, 0),
-            number: k.number,
-        },
-    }
+    refused(g, k, Refusal::NoRight)
 }
 
 // A route call changes no configuration, neither the one in force nor the kept one, so they are not put back.

@@ -2,29 +2,51 @@
 // tells a refusal.
 #![tactic(auto)]
 
-ghost use Rattle.std.specs.Prelude.{◌≡◌, ◌≤◌, ◌<◌, false, length, take, IfSome, OnOk};
+ghost use Rattle.std.specs.Prelude.{◌≡◌, ◌<◌, length, take, IfOk, IfSome, OnOk};
 ghost use Rattle.std.specs.Io.KnownBytes.{Appends, Consumes, IsAtEnd};
 ghost use Rattle.std.specs.Counts.{IsPrefixLen};
 ghost use Rattle.lines.specs.Line.{text};
 ghost use Rattle.replay.specs.Sizes.{decisive};
+ghost use Rattle.input.specs.Reading.{size_read};
+ghost use Rattle.input.specs.declared.Failure.TheVariants as failure;
 
-use lines::{Line, put_line};
-use std::io;
+use lines::{LINE_ROOM, Line, put_line};
 use std::io::{Read, Write};
+use std::{fmt, io};
 
 // One byte more than the largest recording that can be read to its end: 137 bytes of configuration and 4,096 calls of
 // 86 bytes. To desk, compact and agree input left after these is number 9 whatever it is, so the rest is not read; edition has
 // no limit of calls, and refuses input that fills the room.
 pub const INPUT_ROOM: usize = 137 + 4096 * 86 + 1;
 
-// No line has more bytes.
-const LINE_ROOM: usize = 80;
+// Why a program ends without its answer, as the line that it writes on standard error says.
+#[derive(Clone, Copy, Debug, PartialEq, Eq)]
+pub enum Failure {
+    Read,
+    Write,
+}
 
-// How many bytes were read, and whether a read failed after them.
-#[derive(Clone, Copy)]
-pub struct Input {
+impl fmt::Display for Failure {
+    fn fmt<W: fmt::Write>(&self, f: &mut fmt::Formatter<W>) -> fmt::Result {
+        match self {
+            Failure::Read => write!(f, "standard input cannot be read"),
+            Failure::Write => write!(f, "standard output cannot be written"),
+        }
+    }
+}
+
+// A read failed, after so many bytes.
+#[derive(Clone, Copy, Debug, PartialEq, Eq)]
+pub struct ReadFailed {
     pub size: usize,
-    pub failed: bool,
+}
+
+impl From<ReadFailed> for Failure {
+    ghost from_gives = { λ _ f. f ≡ failure.Read };
+
+    fn from(_failed: ReadFailed) -> Failure {
+        Self::Read
+    }
 }
 
 pub fn input_room() -> [u8; INPUT_ROOM]
@@ -34,42 +56,34 @@ pub fn input_room() -> [u8; INPUT_ROOM]
 }
 
 // Reads standard input.
-pub fn read_input<S: io::Input>(rt: &S, buffer: &mut [u8]) -> Input
-    ensures { IsPrefixLen result.size buffer.new }
+pub fn read_input<S: io::Input>(rt: &S, buffer: &mut [u8]) -> Result<usize, ReadFailed>
+    ensures { IsPrefixLen (size_read result) buffer.new }
 {
     read_from(&mut rt.reader(), buffer)
 }
 
-// Reads until the input ends, the buffer is full or a read fails.
-pub fn read_from<R: Read>(reader: &mut R, buffer: &mut [u8]) -> Input
-    ensures size { IsPrefixLen result.size buffer.new }
-    ensures bytes { Consumes (R.remaining reader.old) (R.remaining reader.new) (take result.size buffer.new) }
-    ensures end { result.failed ≡ false → result.size < length buffer.new → IsAtEnd (R.remaining reader.new) }
-    ensures front { result.failed ≡ false → IfSome (R.remaining reader.old)
-        (λ input. take result.size buffer.new ≡ take (length buffer.new) input) }
+// Reads until the input ends, the buffer is full or a read fails, and answers how many bytes were read.
+pub fn read_from<R: Read>(reader: &mut R, buffer: &mut [u8]) -> Result<usize, ReadFailed>
+    ensures size { IsPrefixLen (size_read result) buffer.new }
+    ensures bytes { Consumes (R.remaining reader.old) (R.remaining reader.new) (take (size_read result) buffer.new) }
+    ensures end { IfOk result (λ size. size < length buffer.new → IsAtEnd (R.remaining reader.new)) }
+    ensures front { IfOk result (λ size. IfSome (R.remaining reader.old)
+        (λ input. take size buffer.new ≡ take (length buffer.new) input)) }
 {
-    let mut size: usize = 0;
+    let mut size = 0;
     while size < buffer.len() {
         match reader.read(&mut buffer[size..]) {
-            Ok(0) => {
-                return Input {
-                    size,
-                    failed: false,
-                };
-            }
+            Ok(0) => return Ok(size),
             Ok(more) => size += more,
-            Err(_) => return Input { size, failed: true },
+            Err(_) => return Err(ReadFailed { size }),
         }
     }
-    Input {
-        size,
-        failed: false,
-    }
+    Ok(size)
 }
 
 // A line on a stream, as on standard error.
+#[tactic(auto, using(lines::proofs::TextLaw::text_short))]
 pub fn tell<W: Write>(writer: &mut W, l: Line) -> io::Result<()>
-    requires { l.count ≤ 4 }
     ensures { OnOk result (Appends (W.contents writer.old) (W.contents writer.new) (text l)) }
 {
     let mut text = [0u8; LINE_ROOM];

@@ -1,5 +1,6 @@
 -- Laws about the definitions, for this crate's proofs and for crates above.
 pub mod Bank
+pub mod Checked
 pub mod Idle
 pub mod OffLine
 pub mod Ordered

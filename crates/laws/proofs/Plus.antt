@@ -4,7 +4,9 @@ use mathlib.Core.Path.{◌≡◌, refl, sym, ◌∙◌}
 use native.Mathlib.Nat.{zero-mul}
 use native.Mathlib.Omega.{arith}
 use mathlib.Core.Bool.{Bool, true, false, cond, not}
-use lib.Dec.{T, eqb, ltb, ltb→lt, lt→ltb}
+use lib.Dec.{eqb, ltb, lt→ltb}
+use lib.Ieee.Bits.{is_true}
+use borrow.Author.Tests.{le-ltb}
 use lib.Ieee.Fits.{down_pos, round_is}
 use lib.Ieee.{low, emax, prec, up, down}
 use lib.Ieee.{Float, nan, inf, fin, binary32, odd, units, round, sum, add, mul, div, lt, is_nan, of_bits}
@@ -96,27 +98,13 @@ pub plus_choose : (b : Bool) (x : Float) → plus x ≡ true → plus (choose b 
 plus_choose true x p = p
 plus_choose false x p = zero_plus
 
-no_less : (a n : ℕ) → n ≡ 0 → a < n → ⊥
-no_less a n e h = omega arith
-
-none_below_0 : (a n : ℕ) → n ≡ 0 → ltb a n ≡ false
-none_below_0 a n e = go (ltb a n) (ltb→lt a n)
-  where
-    go : (b : Bool) → (T b → a < n) → b ≡ false
-    go true h = absurd (no_less a n e (h tt))
-    go false h = refl
-
 pub not_below : (x : Float) → plus x ≡ true → lt x n0 ≡ false
 unfolding lt of_bits
 not_below nan p = refl
 not_below (inf true) p = never p
 not_below (inf false) p = refl
 not_below (fin true m e) p = never p
-not_below (fin false m e) p = none_below_0 (m * up e * 1) (0 * down e) (zero-mul (down e))
-
-is_true : (b : Bool) → T b → b ≡ true
-is_true true t = refl
-is_true false t = absurd t
+not_below (fin false m e) p = le-ltb (m * up e * 1) (0 * down e) (omega (arith, zero-mul (down e)))
 
 more : (a b : ℕ) → 0 < b → 0 < a + 1 * b
 more a b h = omega arith

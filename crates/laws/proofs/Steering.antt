@@ -1,21 +1,22 @@
--- The code's way to the L1 laws gives what the laws say: one measured speed, one aim, and no root past a ratio of 1.
+-- The code's way to the L1 laws gives what the laws say: one measured speed, one line, and no root past a ratio of 1.
+use Rattle.std.specs.Prelude.{Option, Some, None, Float}
 use mathlib.Core.Path.{◌≡◌, refl, sym, ◌∙◌}
-use mathlib.Core.Bool.{Bool, true, false, ◌||◌}
+use mathlib.Core.Bool.{true, false, ◌||◌}
 use lib.Ieee.{Float, is_nan, neg, lt, le, eq, of_bits, add, sub, mul, div}
+use Rattle.std.proofs.Math.Bool.{or_assoc, or-false}
+use Rattle.std.proofs.lemmas.Bool.{or_parts}
 use Rattle.arithmetic.specs.Constants.{n0, n1}
 use Rattle.arithmetic.specs.Order.{clamp, size}
 use Rattle.arithmetic.specs.Root.{root_of}
 use Rattle.arithmetic.specs.Trigonometry.{arcsine, arctangent, arctangent_of_size, part, series}
 use Rattle.arithmetic.specs.Vector.{norm, normalise}
 use Rattle.arithmetic.specs.declared.vector.Vec2.{Vec2}
-use Rattle.arithmetic.specs.declared.vector.Normalised.{Normalised}
-use Rattle.arithmetic.specs.declared.vector.Normalised.TheVariants.{None, Parts}
-use Rattle.arithmetic.proofs.Bounds.{never'}
 use Rattle.laws.specs.Navigation.{max_capture, least_leg, least_offset, difference, along, right_of, no_course, level}
 use Rattle.laws.specs.Navigation.{track_by, track_accel, loiter_by, loiter_accel, lateral_accel}
-use Rattle.laws.specs.Code.Steering.{track_to, circle, aim_of, bad_radius, with_centripetal, steer}
-use Rattle.laws.specs.declared.types.OptionVec2.{OptionVec2}
-use Rattle.laws.specs.declared.types.OptionVec2.TheVariants as Leg
+use Rattle.laws.specs.Code.Steering.{track, tangent, line_by, line_of, bad_radius, with_centripetal, steer}
+use Rattle.laws.specs.declared.navigation.Motion.{Motion}
+use Rattle.laws.specs.declared.navigation.Tuning.{Tuning}
+use Rattle.laws.specs.declared.navigation.Waypoint.{Waypoint}
 
 -- ---- the capture angle past a ratio of 1
 
@@ -38,61 +39,56 @@ pub past_right : (ratio : Float) → lt ratio (neg n1) ≡ false → lt n1 ratio
 unfolding clamp
 past_right ratio h g = rw (h, g) captured_right
 
--- ---- one speed, one aim
+pub capture_ordered : lt max_capture (neg max_capture) ≡ false
+unfolding lt neg of_bits
+capture_ordered = refl
 
-pub or_left : (a b : Bool) → a || b ≡ false → a ≡ false
-or_left true b h = never' h
-or_left false b h = refl
-
-pub or_right : (a b : Bool) → a || b ≡ false → b ≡ false
-or_right true b h = never' h
-or_right false b h = h
-
-or_assoc : (a b c : Bool) → a || b || c ≡ a || (b || c)
-or_assoc true b c = refl
-or_assoc false b c = refl
-
-or_false : (a : Bool) → a || false ≡ a
-or_false true = refl
-or_false false = refl
+-- ---- one speed, one line
 
 module _ (position velocity point : Vec2) (radius period damping : Float) where
+  abbrev plane : Motion
+  plane = record { position_m = position; velocity_mps = velocity; speed_mps = norm velocity }
+
+  abbrev tuning : Tuning
+  tuning = record { period_s = period; damping = damping }
+
+  abbrev waypoint : Option Vec2 → Waypoint
+  waypoint leg = record { leg = leg; point_m = point; radius_m = radius }
+
   -- the speed that track measures is the one handed to it
   known :
-      no_course (norm velocity) ≡ false → (through : Vec2) (n : Normalised) →
-      track_by position velocity through period damping n ≡ track_to position velocity through (norm velocity) period damping n
-  unfolding track_by track_to
+      no_course (norm velocity) ≡ false → (through : Vec2) (n : Option Vec2) →
+      track_by position velocity through period damping n ≡ track plane tuning through n
+  unfolding track_by track
   known h through None = refl
-  known h through (Parts d) = rw h
+  known h through (Some d) = rw h
 
-  no_track : no_course (norm velocity) ≡ true → (n : Normalised) → track_by position velocity point period damping n ≡ level true
+  no_track : no_course (norm velocity) ≡ true → (n : Option Vec2) → track_by position velocity point period damping n ≡ level true
   unfolding track_by
   no_track h None = refl
-  no_track h (Parts d) = rw h
+  no_track h (Some d) = rw h
 
   around :
-      no_course (norm velocity) ≡ false → (n : Normalised) →
-      steer (circle point radius n) Leg.None position velocity radius (norm velocity) period damping
-      ≡ loiter_by position velocity point radius period damping n
-  unfolding steer circle with_centripetal loiter_by track_accel
+      no_course (norm velocity) ≡ false → (n : Option Vec2) →
+      steer plane (waypoint None) tuning (tangent (waypoint None) n) ≡ loiter_by position velocity point radius period damping n
+  unfolding steer tangent with_centripetal loiter_by track_accel
   around h None = refl
-  around h (Parts outward) = rw (known h (along point outward radius) (normalise (right_of outward) least_leg))
+  around h (Some outward) = rw (known h (along point outward radius) (normalise (right_of outward) least_leg))
 
   pub gives_up :
-      (leg : OptionVec2) → no_course (norm velocity) || bad_radius leg radius ≡ true →
+      (leg : Option Vec2) → no_course (norm velocity) || bad_radius leg radius ≡ true →
       lateral_accel leg position velocity point radius period damping ≡ level (no_course (norm velocity))
   unfolding bad_radius lateral_accel loiter_accel track_accel
-  gives_up Leg.None h = rw (or_assoc (no_course (norm velocity)) (is_nan radius) (le radius n0), h)
-  gives_up (Leg.Some d) h =
-      let slow = sym (or_false (no_course (norm velocity))) ∙ h in
+  gives_up None h = rw (or_assoc (no_course (norm velocity)) (is_nan radius) (le radius n0), h)
+  gives_up (Some d) h =
+      let slow = sym (or-false (no_course (norm velocity))) ∙ h in
       rw slow (no_track slow (normalise d least_leg))
 
   pub steers :
-      (leg : OptionVec2) → no_course (norm velocity) || bad_radius leg radius ≡ false →
-      steer (aim_of leg position point radius) leg position velocity radius (norm velocity) period damping
-      ≡ lateral_accel leg position velocity point radius period damping
-  unfolding bad_radius aim_of lateral_accel loiter_accel track_accel steer with_centripetal
-  steers Leg.None h =
+      (leg : Option Vec2) → no_course (norm velocity) || bad_radius leg radius ≡ false →
+      steer plane (waypoint leg) tuning (line_of (waypoint leg) position) ≡ lateral_accel leg position velocity point radius period damping
+  unfolding bad_radius line_by lateral_accel loiter_accel track_accel steer with_centripetal
+  steers None h =
       rw (or_assoc (no_course (norm velocity)) (is_nan radius) (le radius n0), h)
-      (around (or_left (no_course (norm velocity)) (is_nan radius || le radius n0) h) (normalise (difference position point) least_offset))
-  steers (Leg.Some d) h = sym (known (or_left (no_course (norm velocity)) false h) point (normalise d least_leg))
+      (around (or_parts (no_course (norm velocity)) (is_nan radius || le radius n0) h).0 (normalise (difference position point) least_offset))
+  steers (Some d) h = sym (known (or_parts (no_course (norm velocity)) false h).0 point (normalise d least_leg))

@@ -1,5 +1,6 @@
 -- Document 02's K5: at a tie straight back the angle steered is FRAC_PI_2 to the right, and the acceleration over gravity is above 0 but
 -- for what is named.
+use Rattle.std.specs.Prelude.{Option, Some, None, Float}
 use mathlib.Core.Path.{◌≡◌, refl, sym, ◌∙◌}
 use mathlib.Core.Bool.{Bool, true, false, cond, not, ◌||◌}
 use Prim.Native.Nat.{ℕ, ◌^◌}
@@ -7,6 +8,7 @@ use native.Mathlib.Omega.{arith}
 use lib.Dec.{T}
 use lib.Pow.{pow_pos}
 use lib.Ieee.{Float, nan, inf, fin, binary32, fits, is_nan, neg, lt, le, eq, of_bits, add, sub, mul, div}
+use Rattle.std.proofs.lemmas.Bool.{or_parts}
 use Rattle.arithmetic.specs.Constants.{◌+ᶠ◌, ◌-ᶠ◌, ◌·ᶠ◌, ◌/ᶠ◌, n0, n1, pi, frac_pi2, frac_pi4}
 use Rattle.arithmetic.specs.Order.{clamp, finite, choose}
 use Rattle.arithmetic.specs.Trigonometry.{sine}
@@ -17,11 +19,8 @@ use Rattle.arithmetic.proofs.Within.{Within, AtLeast, held, is_above, from_1, f3
 use Rattle.laws.specs.Math.{limit_or_zero, clamp_symmetric}
 use Rattle.arithmetic.specs.Vector.{norm, cross, normalise}
 use Rattle.arithmetic.specs.declared.vector.Vec2.{Vec2}
-use Rattle.arithmetic.specs.declared.vector.Normalised.{Normalised}
-use Rattle.arithmetic.specs.declared.vector.Normalised.TheVariants.{None, Parts}
 use Rattle.laws.specs.Navigation.{n4, max_capture, difference, l1, tie, course, capture, steered_rad, track_along, centripetal}
 use Rattle.laws.specs.Navigation.{least_leg, least_offset, along, right_of, no_course, level, track_by, track_accel, loiter_by, loiter_accel}
-use Rattle.laws.proofs.Steering.{or_left, or_right}
 use Rattle.laws.specs.Types.{gravity}
 use Rattle.laws.proofs.Bank.{over_gravity}
 use Rattle.laws.proofs.Plus.{plus, plus_mul, plus_div, plus_add, plus_choose, plus_from_1, plus_above_0, zero_plus}
@@ -263,12 +262,12 @@ module _ (position velocity point : Vec2) (radius period damping : Float) (d : l
   no_less : no_course (norm velocity) ≡ false → plus (norm velocity) ≡ true
   unfolding no_course
   no_less h =
-      plus_from_1 (norm velocity) (or_left (is_nan (norm velocity)) (lt (norm velocity) n1) h)
-      (or_right (is_nan (norm velocity)) (lt (norm velocity) n1) h)
+      plus_from_1 (norm velocity) (or_parts (is_nan (norm velocity)) (lt (norm velocity) n1) h).0
+      (or_parts (is_nan (norm velocity)) (lt (norm velocity) n1) h).1
 
   -- a leg: no acceleration to the left at a tie, wherever the plane is
   pub leg_never_left :
-      (through leg direction : Vec2) → normalise leg least_leg ≡ Parts direction → tie direction velocity ≡ true →
+      (through leg direction : Vec2) → normalise leg least_leg ≡ Some direction → tie direction velocity ≡ true →
       plus (track_accel position velocity through leg period damping).accel_mps2 ≡ true
   unfolding track_accel track_by
   leg_never_left through leg direction n straight = rw n (go (no_course (norm velocity)) refl)
@@ -282,8 +281,8 @@ module _ (position velocity point : Vec2) (radius period damping : Float) (d : l
 
   -- a loiter's tangent
   pub tangent_never_left :
-      (outward direction : Vec2) → normalise (difference position point) least_offset ≡ Parts outward →
-      normalise (right_of outward) least_leg ≡ Parts direction → tie direction velocity ≡ true → lt n0 radius ≡ true →
+      (outward direction : Vec2) → normalise (difference position point) least_offset ≡ Some outward →
+      normalise (right_of outward) least_leg ≡ Some direction → tie direction velocity ≡ true → lt n0 radius ≡ true →
       plus (loiter_accel position velocity point radius period damping).accel_mps2 ≡ true
   unfolding loiter_accel loiter_by
   tangent_never_left outward direction o n straight r = rw o (go (slow || is_nan radius || le radius n0) refl)
@@ -294,25 +293,25 @@ module _ (position velocity point : Vec2) (radius period damping : Float) (d : l
       tracked : plus (track_accel position velocity (along point outward radius) (right_of outward) period damping).accel_mps2 ≡ true
       tracked = leg_never_left (along point outward radius) (right_of outward) direction n straight
 
-      around : slow ≡ false → plus (loiter_by position velocity point radius period damping (Parts outward)).accel_mps2 ≡ true
+      around : slow ≡ false → plus (loiter_by position velocity point radius period damping (Some outward)).accel_mps2 ≡ true
       around h = loiter_never_left (norm velocity) radius _ (no_less h) (plus_above_0 radius r) tracked
 
       go : (b : Bool) → slow || is_nan radius || le radius n0 ≡ b
-          → plus (cond b (level slow) (loiter_by position velocity point radius period damping (Parts outward))).accel_mps2 ≡ true
+          → plus (cond b (level slow) (loiter_by position velocity point radius period damping (Some outward))).accel_mps2 ≡ true
       go true h = zero_plus
-      go false h = around (or_left slow (is_nan radius) (or_left (slow || is_nan radius) (le radius n0) h))
+      go false h = around (or_parts slow (is_nan radius) (or_parts (slow || is_nan radius) (le radius n0) h).0).0
 
   -- ---- above 0
 
   at_least_1 : no_course (norm velocity) ≡ false → AtLeast 1 1 (norm velocity)
   unfolding no_course
   at_least_1 h =
-      from_1 (norm velocity) (or_left (is_nan (norm velocity)) (lt (norm velocity) n1) h) (or_right (is_nan (norm velocity)) (lt (norm velocity) n1) h)
+      from_1 (norm velocity) (or_parts (is_nan (norm velocity)) (lt (norm velocity) n1) h).0 (or_parts (is_nan (norm velocity)) (lt (norm velocity) n1) h).1
 
-  track_finite : (through : Vec2) (n : Normalised) → finite (track_by position velocity through period damping n).accel_mps2 ≡ true
+  track_finite : (through : Vec2) (n : Option Vec2) → finite (track_by position velocity through period damping n).accel_mps2 ≡ true
   unfolding track_by track_along
   track_finite through None = zero_finite
-  track_finite through (Parts direction) = go (no_course (norm velocity))
+  track_finite through (Some direction) = go (no_course (norm velocity))
     where
       go : (b : Bool) →
           finite (cond b (level true) (track_along position velocity through direction (norm velocity) period damping)).accel_mps2 ≡ true
@@ -321,7 +320,7 @@ module _ (position velocity point : Vec2) (radius period damping : Float) (d : l
 
   -- a leg: by the quarter turn's acceleration
   pub leg_right :
-      (through leg direction : Vec2) → normalise leg least_leg ≡ Parts direction → no_course (norm velocity) ≡ false → tie direction velocity ≡ true →
+      (through leg direction : Vec2) → normalise leg least_leg ≡ Some direction → no_course (norm velocity) ≡ false → tie direction velocity ≡ true →
       let turn = factor position velocity through direction (norm velocity) period damping ·ᶠ sine frac_pi2 in
       lt n0 ((track_accel position velocity through leg period damping).accel_mps2 /ᶠ gravity)
       ≡ not (is_nan (capture_of position velocity through direction (distance position velocity through direction (norm velocity) period damping))
@@ -332,7 +331,7 @@ module _ (position velocity point : Vec2) (radius period damping : Float) (d : l
       (right_unless position velocity through direction (norm velocity) period damping straight (plus_above_0 damping d) (plus_above_0 period p) (no_less course))
 
   pub leg_from_0 :
-      (through leg direction : Vec2) → normalise leg least_leg ≡ Parts direction → tie direction velocity ≡ true →
+      (through leg direction : Vec2) → normalise leg least_leg ≡ Some direction → tie direction velocity ≡ true →
       le n0 ((track_accel position velocity through leg period damping).accel_mps2 /ᶠ gravity) ≡ true
   unfolding track_accel
   leg_from_0 through leg direction n straight =
@@ -340,8 +339,8 @@ module _ (position velocity point : Vec2) (radius period damping : Float) (d : l
 
   -- a loiter's tangent: at least 2 ^ -132, since the ground speed is at least 1 and the radius below 2 ^ 128
   pub tangent_right :
-      (outward direction : Vec2) → normalise (difference position point) least_offset ≡ Parts outward →
-      normalise (right_of outward) least_leg ≡ Parts direction → no_course (norm velocity) ≡ false → tie direction velocity ≡ true →
+      (outward direction : Vec2) → normalise (difference position point) least_offset ≡ Some outward →
+      normalise (right_of outward) least_leg ≡ Some direction → no_course (norm velocity) ≡ false → tie direction velocity ≡ true →
       lt n0 radius ≡ true → finite radius ≡ true → T (fits binary32 radius) →
       lt n0 ((loiter_accel position velocity point radius period damping).accel_mps2 /ᶠ gravity) ≡ true
   unfolding loiter_accel loiter_by centripetal track_accel

@@ -1,4 +1,5 @@
--- What a valid configuration guarantees: the test of every field.
+-- What a valid configuration guarantees: the test of every field. And which of them the answer of `validate` names.
+use Rattle.std.proofs.Common.{Ok, Err, eqb, eqb-true}
 use Prim.Native.Nat.{ℕ, zero, suc}
 use mathlib.Core.Path.{◌≡◌, refl}
 use mathlib.Core.Bool.{Bool, true, false, not}
@@ -7,9 +8,11 @@ use native.Mathlib.Omega.{arith}
 use lib.Ieee.{Float, is_nan, lt, le}
 use Rattle.arithmetic.specs.Constants.{n0}
 use Rattle.arithmetic.proofs.Bounds.{never, and_left, right_number, lt_right, le_of_not_lt}
-use Rattle.laws.specs.Config.{first_failing, ordered, tecs_tests, config_tests, tecs_validate, validate, OrderedPairs}
+use Rattle.laws.specs.Config.{first_failing, ordered, tecs_tests, config_tests, tecs_validate, validate, judged, OrderedPairs}
+use Rattle.laws.specs.declared.config.InvalidConfig.{InvalidConfig}
 use Rattle.laws.specs.declared.config.TecsConfig.{TecsConfig}
 use Rattle.laws.specs.declared.config.PlaneGuidanceConfig.{PlaneGuidanceConfig}
+use Rattle.laws.proofs.Checked.{passed, failed, named}
 
 -- the test at a place, counted from 0; past the end there is nothing to fail
 abbrev pub at : ℕ → List Bool → Bool
@@ -56,3 +59,21 @@ valid_ordered c h = record {
       at_most c.min_thrust c.max_thrust (right_number n0 _ (and_left (le n0 c.min_thrust) _ (valid_field c h 31)))
       (right_number n0 _ (and_left (le n0 c.max_thrust) _ (valid_field c h 32))) (valid_field c h 35);
 }
+
+-- ---- by what `validate` answers
+
+pub valid_judged : (c : PlaneGuidanceConfig) → Ok tt ≡ judged c → validate c ≡ 0
+unfolding judged
+valid_judged c h = eqb-true (validate c) 0 (passed (validate c) _ h)
+
+pub judged_valid : (c : PlaneGuidanceConfig) → validate c ≡ 0 → judged c ≡ Ok tt
+unfolding judged
+judged_valid c h = rw h
+
+pub failed_judged : (c : PlaneGuidanceConfig) (e : InvalidConfig) → Err e ≡ judged c → eqb (validate c) 0 ≡ false
+unfolding judged
+failed_judged c e h = failed (validate c) _ e h
+
+pub field_judged : (c : PlaneGuidanceConfig) (e : InvalidConfig) → Err e ≡ judged c → record { field = validate c } ≡ e
+unfolding judged
+field_judged c e h = named (validate c) _ e h

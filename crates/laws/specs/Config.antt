@@ -1,12 +1,13 @@
 -- The configuration's 33 numbers: their tests in the order of `validate`, with the two pairs of document 02's K8 as fields 34
 -- and 35, and their Default values. Definitions only.
-use Rattle.std.specs.Prelude.{ℕ, suc, ◌≡◌, Bool, true, cond, not, ◌&&◌, List, [], ◌∷◌, ◌++◌, Float}
+use Rattle.std.specs.Prelude.{ℕ, suc, ◌≡◌, Bool, true, cond, not, ◌&&◌, eqb, List, [], ◌∷◌, ◌++◌, Result, Ok, Err, Float}
 use Rattle.std.specs.Float.Ieee as Ieee
 use Rattle.std.specs.Float.Ieee.{neg}
 use Rattle.arithmetic.specs.Constants.{f32, n0, n1, n2, frac_pi2}
 use Rattle.arithmetic.specs.Order.{finite}
 use Rattle.laws.specs.declared.config.TecsConfig.{TecsConfig}
 use Rattle.laws.specs.declared.config.PlaneGuidanceConfig.{PlaneGuidanceConfig}
+use Rattle.laws.specs.declared.config.InvalidConfig.{InvalidConfig}
 
 -- ---- one field's test
 
@@ -98,6 +99,22 @@ tecs_validate t = first_failing 15 (tecs_tests t) 0
 -- of the first failing field, 1 to 35.
 unfoldable pub validate : PlaneGuidanceConfig → ℕ
 validate c = first_failing 1 (config_tests c) 0
+
+-- ---- the answers
+
+-- Ok where the test passes, and else the field's number
+abbrev pub checked : ℕ → Bool → Result (Unit {0}) InvalidConfig
+checked n passes = cond passes (Ok tt) (Err (record { field = n }))
+
+-- Ok for 0, and else that field
+abbrev pub verdict : ℕ → Result (Unit {0}) InvalidConfig
+verdict n = checked n (eqb n 0)
+
+unfoldable pub tecs_judged : TecsConfig → Result (Unit {0}) InvalidConfig
+tecs_judged t = verdict (tecs_validate t)
+
+unfoldable pub judged : PlaneGuidanceConfig → Result (Unit {0}) InvalidConfig
+judged c = verdict (validate c)
 
 -- K8: least airspeed and least thrust are numbers, and neither is above its greatest.
 pub record OrderedPairs (c : PlaneGuidanceConfig) : Type 0 where

@@ -1,18 +1,15 @@
 -- The L1 laws and the PI loop of navigation.rs: x is north, y east, right is positive. Definitions only.
-use Rattle.std.specs.Prelude.{Bool, true, false, cond, ◌&&◌, ◌||◌, Float}
+use Rattle.std.specs.Prelude.{Bool, true, false, cond, ◌&&◌, ◌||◌, Float, Option, Some, None}
 use Rattle.std.specs.Float.Ieee as Ieee
 use Rattle.std.specs.Float.Ieee.{is_nan, neg}
 use Rattle.arithmetic.specs.Constants.{f32, ◌+ᶠ◌, ◌-ᶠ◌, ◌·ᶠ◌, ◌/ᶠ◌, n0, n1, pi, frac_pi2, frac_pi4}
 use Rattle.arithmetic.specs.Order.{greatest, clamp, finite, choose}
+pub use Rattle.arithmetic.specs.Vector.{difference}
 use Rattle.arithmetic.specs.Vector.{norm, dot, cross, normalise}
 use Rattle.arithmetic.specs.Trigonometry.{sine, arcsine, arctangent, arctangent2}
 use Rattle.arithmetic.specs.declared.vector.Vec2.{Vec2}
-use Rattle.arithmetic.specs.declared.vector.Normalised.{Normalised}
-use Rattle.arithmetic.specs.declared.vector.Normalised.TheVariants.{None, Parts}
 use Rattle.laws.specs.Math.{clamp_symmetric, all_finite}
 use Rattle.laws.specs.Types.{gravity}
-use Rattle.laws.specs.declared.types.OptionVec2.{OptionVec2}
-use Rattle.laws.specs.declared.types.OptionVec2.TheVariants as Leg
 use Rattle.laws.specs.declared.navigation.Lateral.{Lateral}
 use Rattle.laws.specs.declared.navigation.L1Gains.{L1Gains}
 use Rattle.laws.specs.declared.navigation.PiLoop.{PiLoop}
@@ -34,9 +31,6 @@ abbrev pub max_capture : Float
 max_capture = frac_pi4
 
 -- ---- vectors
-
-abbrev pub difference : Vec2 → Vec2 → Vec2
-difference a b = record { x = a.x -ᶠ b.x; y = a.y -ᶠ b.y }
 
 -- a + b · k
 abbrev pub along : Vec2 → Vec2 → Float → Vec2
@@ -90,9 +84,9 @@ track_along position velocity point direction speed period damping =
     record { accel_mps2 = choose (finite accel) accel n0; cross_track_m = cross direction (difference position point); idle = false }
 
 -- by the leg's normalised direction: none, a leg of length up to 1e-6, gives 0 and is idle, as no course does
-unfoldable pub track_by : Vec2 → Vec2 → Vec2 → Float → Float → Normalised → Lateral
+unfoldable pub track_by : Vec2 → Vec2 → Vec2 → Float → Float → Option Vec2 → Lateral
 track_by position velocity point period damping None = level true
-track_by position velocity point period damping (Parts direction) =
+track_by position velocity point period damping (Some direction) =
     let speed = norm velocity in
     cond (no_course speed) (level true) (track_along position velocity point direction speed period damping)
 
@@ -109,10 +103,10 @@ centripetal speed radius = speed ·ᶠ speed /ᶠ radius
 
 -- by the direction outward from the centre: within 1e-3 of it centripetal alone, else track on the tangent at the
 -- circle's nearest point, and centripetal added
-unfoldable pub loiter_by : Vec2 → Vec2 → Vec2 → Float → Float → Float → Normalised → Lateral
+unfoldable pub loiter_by : Vec2 → Vec2 → Vec2 → Float → Float → Float → Option Vec2 → Lateral
 loiter_by position velocity center radius period damping None =
     record { accel_mps2 = centripetal (norm velocity) radius; cross_track_m = n0; idle = false }
-loiter_by position velocity center radius period damping (Parts outward) =
+loiter_by position velocity center radius period damping (Some outward) =
     let tracked = track_accel position velocity (along center outward radius) (right_of outward) period damping in
     record {
       accel_mps2 = centripetal (norm velocity) radius +ᶠ tracked.accel_mps2;
@@ -129,44 +123,44 @@ loiter_accel position velocity center radius period damping =
 -- ---- track or loiter
 
 -- the leg where it is present and finite
-unfoldable pub finite_leg : OptionVec2 → OptionVec2
-finite_leg Leg.None = Leg.None
-finite_leg (Leg.Some v) = cond (all_finite v) (Leg.Some v) Leg.None
+unfoldable pub finite_leg : Option Vec2 → Option Vec2
+finite_leg None = None
+finite_leg (Some v) = cond (all_finite v) (Some v) None
 
 -- a leg is tracked; without one the point is the centre of a loiter
-unfoldable pub lateral_accel : OptionVec2 → Vec2 → Vec2 → Vec2 → Float → Float → Float → Lateral
-lateral_accel Leg.None position velocity point radius period damping = loiter_accel position velocity point radius period damping
-lateral_accel (Leg.Some leg) position velocity point radius period damping = track_accel position velocity point leg period damping
+unfoldable pub lateral_accel : Option Vec2 → Vec2 → Vec2 → Vec2 → Float → Float → Float → Lateral
+lateral_accel None position velocity point radius period damping = loiter_accel position velocity point radius period damping
+lateral_accel (Some leg) position velocity point radius period damping = track_accel position velocity point leg period damping
 
 -- ---- idle, document 02's K1: by the call's own numbers
 
 -- a leg's length is at most 1e-6
-abbrev pub short_leg : OptionVec2 → Bool
-short_leg Leg.None = false
-short_leg (Leg.Some leg) = Ieee.le (norm leg) least_leg
+abbrev pub short_leg : Option Vec2 → Bool
+short_leg None = false
+short_leg (Some leg) = Ieee.le (norm leg) least_leg
 
 -- or the ground speed is below 1.0 or NaN
-unfoldable pub idle : OptionVec2 → Vec2 → Bool
+unfoldable pub idle : Option Vec2 → Vec2 → Bool
 idle leg velocity = short_leg leg || no_course (norm velocity)
 
 -- ---- distance off the line, document 02's K6: metres, right positive
 
 -- the cross product of normalised leg and position minus its waypoint; +0 for a short leg
-abbrev pub off_line : Vec2 → Vec2 → Normalised → Float
+abbrev pub off_line : Vec2 → Vec2 → Option Vec2 → Float
 off_line position point None = n0
-off_line position point (Parts direction) = cross direction (difference position point)
+off_line position point (Some direction) = cross direction (difference position point)
 
 -- off a loiter's tangent line, by the direction outward from the centre; +0 within 1e-3 of it
-abbrev pub off_tangent : Vec2 → Vec2 → Float → Normalised → Float
+abbrev pub off_tangent : Vec2 → Vec2 → Float → Option Vec2 → Float
 off_tangent position center radius None = n0
-off_tangent position center radius (Parts outward) = off_line position (along center outward radius) (normalise (right_of outward) least_leg)
+off_tangent position center radius (Some outward) = off_line position (along center outward radius) (normalise (right_of outward) least_leg)
 
 -- +0 also for a ground speed below 1.0 or NaN, and for a radius that is NaN or not above 0
-unfoldable pub cross_track : OptionVec2 → Vec2 → Vec2 → Vec2 → Float → Float
-cross_track Leg.None position velocity point radius =
+unfoldable pub cross_track : Option Vec2 → Vec2 → Vec2 → Vec2 → Float → Float
+cross_track None position velocity point radius =
     cond (no_course (norm velocity) || is_nan radius || Ieee.le radius n0) n0
     (off_tangent position point radius (normalise (difference position point) least_offset))
-cross_track (Leg.Some leg) position velocity point radius =
+cross_track (Some leg) position velocity point radius =
     cond (no_course (norm velocity)) n0 (off_line position point (normalise leg least_leg))
 
 -- ---- bank

@@ -1,5 +1,5 @@
 // The configuration: 33 numbers, numbered in the order of `validate`, which looks at two pairs of them last, as fields 34 and 35.
-ghost use Rattle.std.specs.Prelude.{◌≡◌, cond};
+ghost use Rattle.std.specs.Prelude.{◌≡◌};
 ghost use Rattle.laws.specs.Config as spec;
 
 use crate::types::Vec3;
@@ -53,123 +53,121 @@ pub struct PlaneGuidanceConfig {
 // One degree in radians.
 const DEG: f32 = PI / 180.0;
 
-// Each check gives `rest` where the value passes, and else the field's number.
-fn check_limit(field: u32, value: f32, rest: u32) -> u32
-    ensures { result ≡ cond (spec.check_limit value) rest field }
+// The number of the first field that fails, 1 to 35. The Rust's InvalidConfig has the field's name.
+#[derive(Clone, Copy, PartialEq, Eq)]
+pub struct InvalidConfig {
+    pub field: u32,
+}
+
+fn check(field: u32, passes: bool) -> Result<(), InvalidConfig>
+    ensures { result ≡ spec.checked field passes }
 {
-    if (value >= 0.0) & is_finite(value) {
-        rest
+    if passes {
+        Ok(())
     } else {
-        field
+        Err(InvalidConfig { field })
     }
 }
 
-fn check_positive(field: u32, value: f32, rest: u32) -> u32
-    ensures { result ≡ cond (spec.check_positive value) rest field }
+fn check_limit(field: u32, value: f32) -> Result<(), InvalidConfig>
+    ensures { result ≡ spec.checked field (spec.check_limit value) }
 {
-    if (value > 0.0) & is_finite(value) {
-        rest
-    } else {
-        field
-    }
+    check(field, (value >= 0.0) & is_finite(value))
 }
 
-fn check_within(field: u32, low: f32, value: f32, high: f32, rest: u32) -> u32
-    ensures { result ≡ cond (spec.within low value high) rest field }
+fn check_positive(field: u32, value: f32) -> Result<(), InvalidConfig>
+    ensures { result ≡ spec.checked field (spec.check_positive value) }
 {
-    if (value >= low) & (value <= high) {
-        rest
-    } else {
-        field
-    }
+    check(field, (value > 0.0) & is_finite(value))
 }
 
-fn check_share(field: u32, value: f32, rest: u32) -> u32
-    ensures { result ≡ cond (spec.check_share value) rest field }
+fn check_within(field: u32, low: f32, value: f32, high: f32) -> Result<(), InvalidConfig>
+    ensures { result ≡ spec.checked field (spec.within low value high) }
 {
-    if (value > 0.0) & (value <= 1.0) {
-        rest
-    } else {
-        field
-    }
+    check(field, (value >= low) & (value <= high))
+}
+
+fn check_share(field: u32, value: f32) -> Result<(), InvalidConfig>
+    ensures { result ≡ spec.checked field (spec.check_share value) }
+{
+    check(field, (value > 0.0) & (value <= 1.0))
 }
 
 // Document 02, K8: a least value above its greatest fails; equal ones pass, zeros of two signs too.
-fn check_ordered(field: u32, least: f32, greatest: f32, rest: u32) -> u32
-    ensures { result ≡ cond (spec.ordered least greatest) rest field }
+fn check_ordered(field: u32, least: f32, greatest: f32) -> Result<(), InvalidConfig>
+    ensures { result ≡ spec.checked field (spec.ordered least greatest) }
 {
-    if least > greatest { field } else { rest }
+    check(field, !(least > greatest))
 }
 
-// Fields 1 to 14; `rest` where all of them pass.
-fn first_fields(c: PlaneGuidanceConfig, rest: u32) -> u32
-    ensures { result ≡ spec.first_failing 1 (spec.first_tests c) rest }
+// Fields 1 to 14.
+#[tactic(auto, using(crate::proofs::Checked::checks), unfolding(crate::specs::Config::first_failing))]
+fn check_first(c: PlaneGuidanceConfig) -> Result<(), InvalidConfig>
+    ensures { result ≡ spec.verdict (spec.first_failing 1 (spec.first_tests c) 0) }
 {
-    let n14 = check_limit(14, c.altitude_max_integral, rest);
-    let n13 = check_limit(13, c.altitude_i, n14);
-    let n12 = check_limit(12, c.altitude_p, n13);
-    let n11 = check_positive(11, c.loiter_radius_m, n12);
-    let n10 = check_positive(10, c.l1_damping, n11);
-    let n9 = check_positive(9, c.l1_period_s, n10);
-    let n8 = check_within(8, 0.0, c.cruise_thrust, 1.0, n9);
-    let n7 = check_within(7, -FRAC_PI_2, c.trim_pitch_rad, FRAC_PI_2, n8);
-    let n6 = check_limit(6, c.max_rate_radps.z, n7);
-    let n5 = check_limit(5, c.max_rate_radps.y, n6);
-    let n4 = check_limit(4, c.max_rate_radps.x, n5);
-    let n3 = check_within(3, 0.0, c.max_pitch_down_rad, FRAC_PI_2, n4);
-    let n2 = check_within(2, 0.0, c.max_pitch_up_rad, FRAC_PI_2, n3);
-    check_within(1, 0.0, c.max_bank_rad, FRAC_PI_2, n2)
-}
-
-// Fields 15 to 30.
-fn tecs_fields(t: TecsConfig, rest: u32) -> u32
-    ensures { result ≡ spec.first_failing 15 (spec.tecs_tests t) rest }
-{
-    let n30 = check_positive(30, t.kinetic_rate_high_pass_s, rest);
-    let n29 = check_positive(29, t.airspeed_rate_time_constant_s, n30);
-    let n28 = check_positive(28, t.height_demand_time_constant_s, n29);
-    let n27 = check_share(27, t.underspeed_share, n28);
-    let n26 = check_positive(26, t.max_airspeed_mps, n27);
-    let n25 = check_positive(25, t.min_airspeed_mps, n26);
-    let n24 = check_limit(24, t.roll_compensation, n25);
-    let n23 = check_within(23, 0.0, t.speed_weight, 2.0, n24);
-    let n22 = check_limit(22, t.pitch_integrator_gain, n23);
-    let n21 = check_limit(21, t.pitch_damping, n22);
-    let n20 = check_limit(20, t.integrator_gain, n21);
-    let n19 = check_limit(19, t.thrust_damping, n20);
-    let n18 = check_limit(18, t.max_sink_mps, n19);
-    let n17 = check_positive(17, t.min_sink_mps, n18);
-    let n16 = check_positive(16, t.max_climb_mps, n17);
-    check_positive(15, t.time_constant_s, n16)
+    check_within(1, 0.0, c.max_bank_rad, FRAC_PI_2)?;
+    check_within(2, 0.0, c.max_pitch_up_rad, FRAC_PI_2)?;
+    check_within(3, 0.0, c.max_pitch_down_rad, FRAC_PI_2)?;
+    check_limit(4, c.max_rate_radps.x)?;
+    check_limit(5, c.max_rate_radps.y)?;
+    check_limit(6, c.max_rate_radps.z)?;
+    check_within(7, -FRAC_PI_2, c.trim_pitch_rad, FRAC_PI_2)?;
+    check_within(8, 0.0, c.cruise_thrust, 1.0)?;
+    check_positive(9, c.l1_period_s)?;
+    check_positive(10, c.l1_damping)?;
+    check_positive(11, c.loiter_radius_m)?;
+    check_limit(12, c.altitude_p)?;
+    check_limit(13, c.altitude_i)?;
+    check_limit(14, c.altitude_max_integral)
 }
 
 // Fields 31 to 33, and the two pairs, 34 and 35.
-fn last_fields(c: PlaneGuidanceConfig, rest: u32) -> u32
-    ensures { result ≡ spec.first_failing 31 (spec.last_tests c) rest }
+#[tactic(auto, using(crate::proofs::Checked::checks), unfolding(crate::specs::Config::first_failing))]
+fn check_last(c: PlaneGuidanceConfig) -> Result<(), InvalidConfig>
+    ensures { result ≡ spec.verdict (spec.first_failing 31 (spec.last_tests c) 0) }
 {
-    let n35 = check_ordered(35, c.min_thrust, c.max_thrust, rest);
-    let n34 = check_ordered(34, c.tecs.min_airspeed_mps, c.tecs.max_airspeed_mps, n35);
-    let n33 = check_limit(33, c.climb_thrust_per_rad, n34);
-    let n32 = check_within(32, 0.0, c.max_thrust, 1.0, n33);
-    check_within(31, 0.0, c.min_thrust, 1.0, n32)
+    check_within(31, 0.0, c.min_thrust, 1.0)?;
+    check_within(32, 0.0, c.max_thrust, 1.0)?;
+    check_limit(33, c.climb_thrust_per_rad)?;
+    check_ordered(34, c.tecs.min_airspeed_mps, c.tecs.max_airspeed_mps)?;
+    check_ordered(35, c.min_thrust, c.max_thrust)
 }
 
-// 0, or the number of the first failing field, 15 to 30.
-pub fn tecs_validate(t: TecsConfig) -> u32
-    ensures { result ≡ spec.tecs_validate t }
+// Fields 15 to 30.
+#[tactic(auto, using(crate::proofs::Checked::checks), unfolding(crate::specs::Config::tecs_judged, crate::specs::Config::tecs_validate, crate::specs::Config::first_failing))]
+pub fn tecs_validate(t: TecsConfig) -> Result<(), InvalidConfig>
+    ensures { result ≡ spec.tecs_judged t }
 {
-    tecs_fields(t, 0)
+    check_positive(15, t.time_constant_s)?;
+    check_positive(16, t.max_climb_mps)?;
+    check_positive(17, t.min_sink_mps)?;
+    check_limit(18, t.max_sink_mps)?;
+    check_limit(19, t.thrust_damping)?;
+    check_limit(20, t.integrator_gain)?;
+    check_limit(21, t.pitch_damping)?;
+    check_limit(22, t.pitch_integrator_gain)?;
+    check_within(23, 0.0, t.speed_weight, 2.0)?;
+    check_limit(24, t.roll_compensation)?;
+    check_positive(25, t.min_airspeed_mps)?;
+    check_positive(26, t.max_airspeed_mps)?;
+    check_share(27, t.underspeed_share)?;
+    check_positive(28, t.height_demand_time_constant_s)?;
+    check_positive(29, t.airspeed_rate_time_constant_s)?;
+    check_positive(30, t.kinetic_rate_high_pass_s)
 }
 
-// 0, or the number of the first failing field, 1 to 35.
-pub fn validate(c: PlaneGuidanceConfig) -> u32
-    ensures { result ≡ spec.validate c }
+// All 35 fields, in their order.
+#[tactic(auto, using(crate::proofs::Checked::checks, crate::proofs::Checked::parts), unfolding(crate::specs::Config::tecs_judged, crate::specs::Config::judged))]
+pub fn validate(c: PlaneGuidanceConfig) -> Result<(), InvalidConfig>
+    ensures { result ≡ spec.judged c }
 {
-    let last = last_fields(c, 0);
     let t = c.tecs;
-    first_fields(c, tecs_fields(t, last))
+    check_first(c)?;
+    tecs_validate(t)?;
+    check_last(c)
 }
 
+#[tactic(auto, unfolding(crate::specs::Config::tecs_default))]
 pub fn tecs_default() -> TecsConfig
     ensures { result ≡ spec.tecs_default }
 {

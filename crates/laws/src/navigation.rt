@@ -1,14 +1,14 @@
 // Waypoint navigation: L1 path following and loiter, and the altitude loop. x is north, y is east, right is positive.
 ghost use Rattle.std.specs.Prelude.{◌≡◌};
-ghost use Rattle.arithmetic.specs.Vector.{normalise as unit};
+ghost use Rattle.arithmetic.specs.Vector.{difference, normalise as unit};
 ghost use Rattle.laws.specs.Navigation as spec;
 ghost use Rattle.laws.specs.Code.Steering as steering;
 
 use crate::math::{all_finite, clamp_symmetric};
-use crate::types::{GRAVITY, OptionVec2};
-use arithmetic::order::{choose, clamp_ordered, greatest, is_finite, is_nan};
+use crate::types::GRAVITY;
+use arithmetic::order::{choose, clamp_ordered, greatest, is_finite};
 use arithmetic::trigonometry::{FRAC_PI_2, FRAC_PI_4, PI, arcsine, arctangent, arctangent2, sine};
-use arithmetic::vector::{Normalised, Vec2, cross, dot, norm, normalise};
+use arithmetic::vector::{Vec2, cross, difference, dot, norm, normalise};
 
 // Below this ground speed the path has no course to compare against.
 const MIN_GROUND_SPEED_MPS: f32 = 1.0;
@@ -16,7 +16,7 @@ const MIN_GROUND_SPEED_MPS: f32 = 1.0;
 const MAX_CAPTURE_RAD: f32 = FRAC_PI_4;
 
 // What a lateral law answers: the acceleration in m/s² and the distance off its line in m, both right positive; idle where
-// it gave up for want of a leg or a course.
+// it gave up for want of a leg or a course. No Option, since both numbers are flown when idle too: each caller would spell their zeros.
 #[derive(Clone, Copy)]
 pub struct Lateral {
     pub accel_mps2: f32,
@@ -38,11 +38,27 @@ pub struct Line {
     pub direction: Vec2,
 }
 
-// Where a lateral law steers: along a line, or, within 1e-3 of a loiter's centre, along none.
+// Where the plane is and how it moves over the ground, its speed measured once for both laws.
 #[derive(Clone, Copy)]
-pub enum Aim {
-    Line(Line),
-    Center,
+struct Motion {
+    position_m: Vec2,
+    velocity_mps: Vec2,
+    speed_mps: f32,
+}
+
+// What L1 is tuned by.
+#[derive(Clone, Copy)]
+struct Tuning {
+    period_s: f32,
+    damping: f32,
+}
+
+// What is flown to: the leg through the point, or without a leg the loiter around it with this radius.
+#[derive(Clone, Copy)]
+struct Waypoint {
+    leg: Option<Vec2>,
+    point_m: Vec2,
+    radius_m: f32,
 }
 
 // A PI loop with a clamped output; it holds only its integral.
@@ -59,12 +75,14 @@ pub struct PiResult {
     pub pi: PiLoop,
 }
 
+#[tactic(auto, unfolding(crate::specs::Navigation::no_course))]
 pub fn no_course(speed_mps: f32) -> bool
     ensures { result ≡ spec.no_course speed_mps }
 {
-    is_nan(speed_mps) | (speed_mps < MIN_GROUND_SPEED_MPS)
+    speed_mps.is_nan() | (speed_mps < MIN_GROUND_SPEED_MPS)
 }
 
+#[tactic(auto, unfolding(crate::specs::Navigation::l1))]
 pub fn l1(ground_speed_mps: f32, period_s: f32, damping: f32) -> L1Gains
     ensures { result ≡ spec.l1 ground_speed_mps period_s damping }
 {
@@ -74,16 +92,8 @@ pub fn l1(ground_speed_mps: f32, period_s: f32, damping: f32) -> L1Gains
     }
 }
 
-fn difference(a: Vec2, b: Vec2) -> Vec2
-    ensures { result ≡ spec.difference a b }
-{
-    Vec2 {
-        x: a.x - b.x,
-        y: a.y - b.y,
-    }
-}
-
 // Past ±1 the clamped ratio's arcsine is ±FRAC_PI_2, beyond the capture's limit: no root is taken.
+#[tactic(auto, using(crate::proofs::Steering::past_left, crate::proofs::Steering::past_right, crate::proofs::Steering::capture_ordered), unfolding(crate::specs::Navigation::capture, arithmetic::specs::Order::clamp))]
 fn capture(cross_track_m: f32, distance_m: f32) -> f32
     ensures { result ≡ spec.capture cross_track_m distance_m }
 {
@@ -98,6 +108,7 @@ fn capture(cross_track_m: f32, distance_m: f32) -> f32
 }
 
 // Straight back is a tie, which turns right whatever the sign of the zero.
+#[tactic(auto, unfolding(crate::specs::Navigation::course))]
 fn course(direction: Vec2, velocity_mps: Vec2) -> f32
     ensures { result ≡ spec.course direction velocity_mps }
 {
@@ -109,161 +120,140 @@ fn course(direction: Vec2, velocity_mps: Vec2) -> f32
     arctangent2(side, ahead)
 }
 
-// The law along a normalised direction (zeros where the leg's length overflows), at a ground speed that has a course.
-fn track_along(
-    position_m: Vec2,
-    velocity_mps: Vec2,
-    point_m: Vec2,
-    direction: Vec2,
-    speed_mps: f32,
-    period_s: f32,
-    damping: f32,
-) -> Lateral
-    ensures { result ≡ spec.track_along position_m velocity_mps point_m direction speed_mps period_s damping }
-{
-    let gains = l1(speed_mps, period_s, damping);
-    let cross_track_m = cross(direction, difference(position_m, point_m));
-    let capture_rad = capture(cross_track_m, gains.distance_m);
-    let eta_rad = clamp_symmetric(-capture_rad - course(direction, velocity_mps), FRAC_PI_2);
-    let accel = gains.gain * speed_mps * speed_mps / gains.distance_m * sine(eta_rad);
-    Lateral {
-        accel_mps2: choose(is_finite(accel), accel, 0.0),
-        cross_track_m,
-        idle: false,
-    }
-}
-
-// The law along a direction of any length, at a ground speed that has a course.
-fn track_to(
-    position_m: Vec2,
-    velocity_mps: Vec2,
-    point_m: Vec2,
-    direction: Vec2,
-    speed_mps: f32,
-    period_s: f32,
-    damping: f32,
-) -> Lateral
-    ensures { result ≡ steering.track_to position_m velocity_mps point_m speed_mps period_s damping (unit direction spec.least_leg) }
-{
-    match normalise(direction, 1e-6) {
-        Normalised::None => Lateral {
+impl Lateral {
+    // Where a law gives up: wings level.
+    fn level(idle: bool) -> Lateral
+        ensures { result ≡ spec.level idle }
+    {
+        Lateral {
             accel_mps2: 0.0,
             cross_track_m: 0.0,
-            idle: true,
-        },
-        Normalised::Parts(d) => {
-            track_along(
-                position_m,
-                velocity_mps,
-                point_m,
-                d,
-                speed_mps,
-                period_s,
-                damping,
-            )
+            idle,
         }
     }
 }
 
-fn centripetal(speed_mps: f32, radius_m: f32) -> f32
-    ensures { result ≡ spec.centripetal speed_mps radius_m }
-{
-    speed_mps * speed_mps / radius_m
+impl Motion {
+    // The law along a line whose direction is normalised (zeros where the leg's length overflows), at a speed that has a course.
+    #[tactic(auto, unfolding(crate::specs::Navigation::track_along))]
+    fn track_along(self, line: Line, tuning: Tuning) -> Lateral
+        ensures { result ≡ steering.along_line self tuning line }
+    {
+        let speed_mps = self.speed_mps;
+        let gains = l1(speed_mps, tuning.period_s, tuning.damping);
+        let cross_track_m = cross(line.direction, difference(self.position_m, line.point));
+        let capture_rad = capture(cross_track_m, gains.distance_m);
+        let course_rad = course(line.direction, self.velocity_mps);
+        let eta_rad = clamp_symmetric(-capture_rad - course_rad, FRAC_PI_2);
+        let accel = gains.gain * speed_mps * speed_mps / gains.distance_m * sine(eta_rad);
+        Lateral {
+            accel_mps2: choose(is_finite(accel), accel, 0.0),
+            cross_track_m,
+            idle: false,
+        }
+    }
+
+    // The law along a line whose direction has any length, at a speed that has a course.
+    #[tactic(auto, unfolding(crate::specs::Code::Steering::track))]
+    fn track(self, line: Line, tuning: Tuning) -> Lateral
+        ensures { result ≡ steering.track self tuning line.point (unit line.direction spec.least_leg) }
+    {
+        match normalise(line.direction, 1e-6) {
+            None => Lateral::level(true),
+            Some(direction) => {
+                let point = line.point;
+                self.track_along(Line { point, direction }, tuning)
+            }
+        }
+    }
+
+    // Both laws come down to one line, so that track has one place where it is called.
+    #[tactic(auto, unfolding(crate::specs::Code::Steering::steer))]
+    fn steer(self, waypoint: Waypoint, tuning: Tuning) -> Lateral
+        ensures { result ≡ steering.steer self waypoint tuning (steering.line_of waypoint self.position_m) }
+    {
+        match waypoint.line(self.position_m) {
+            None => Lateral {
+                accel_mps2: waypoint.centripetal(self.speed_mps),
+                cross_track_m: 0.0,
+                idle: false,
+            },
+            Some(line) => waypoint.with_centripetal(self.speed_mps, self.track(line, tuning)),
+        }
+    }
 }
 
-// The tangent at the nearest point of the circle, clockwise: from north, toward east.
-fn circle(position_m: Vec2, center_m: Vec2, radius_m: f32) -> Aim
-    ensures { result ≡ steering.circle center_m radius_m (unit (spec.difference position_m center_m) spec.least_offset) }
-{
-    match normalise(difference(position_m, center_m), 1e-3) {
-        Normalised::None => Aim::Center,
-        Normalised::Parts(outward) => Aim::Line(Line {
+impl Waypoint {
+    // Of a loiter: NaN, or not above 0.
+    #[tactic(auto, unfolding(crate::specs::Code::Steering::bad_radius))]
+    fn has_bad_radius(self) -> bool
+        ensures { result ≡ steering.bad_radius self.leg self.radius_m }
+    {
+        match self.leg {
+            None => self.radius_m.is_nan() | (self.radius_m <= 0.0),
+            Some(_) => false,
+        }
+    }
+
+    // A loiter's tangent at the nearest point, clockwise: from north, toward east. Within 1e-3 of the centre there is none.
+    #[tactic(auto, unfolding(crate::specs::Code::Steering::tangent))]
+    fn tangent(self, position_m: Vec2) -> Option<Line>
+        ensures { result ≡ steering.tangent self (unit (difference position_m self.point_m) spec.least_offset) }
+    {
+        let outward = normalise(difference(position_m, self.point_m), 1e-3)?;
+        Some(Line {
             point: Vec2 {
-                x: center_m.x + outward.x * radius_m,
-                y: center_m.y + outward.y * radius_m,
+                x: self.point_m.x + outward.x * self.radius_m,
+                y: self.point_m.y + outward.y * self.radius_m,
             },
             direction: Vec2 {
                 x: -outward.y,
                 y: outward.x,
             },
-        }),
+        })
     }
-}
 
-fn aim_of(leg: OptionVec2, position_m: Vec2, point_m: Vec2, radius_m: f32) -> Aim
-    ensures { result ≡ steering.aim_of leg position_m point_m radius_m }
-{
-    match leg {
-        OptionVec2::None => circle(position_m, point_m, radius_m),
-        OptionVec2::Some(direction) => Aim::Line(Line {
-            point: point_m,
-            direction,
-        }),
-    }
-}
-
-fn bad_radius(leg: OptionVec2, radius_m: f32) -> bool
-    ensures { result ≡ steering.bad_radius leg radius_m }
-{
-    match leg {
-        OptionVec2::None => is_nan(radius_m) | (radius_m <= 0.0),
-        OptionVec2::Some(_) => false,
-    }
-}
-
-// What a loiter adds to track.
-fn with_centripetal(leg: OptionVec2, speed_mps: f32, radius_m: f32, tracked: Lateral) -> Lateral
-    ensures { result ≡ steering.with_centripetal leg speed_mps radius_m tracked }
-{
-    match leg {
-        OptionVec2::None => Lateral {
-            accel_mps2: centripetal(speed_mps, radius_m) + tracked.accel_mps2,
-            cross_track_m: tracked.cross_track_m,
-            idle: false,
-        },
-        OptionVec2::Some(_) => tracked,
-    }
-}
-
-fn steer(
-    aim: Aim,
-    leg: OptionVec2,
-    position_m: Vec2,
-    velocity_mps: Vec2,
-    radius_m: f32,
-    speed_mps: f32,
-    period_s: f32,
-    damping: f32,
-) -> Lateral
-    ensures { result ≡ steering.steer aim leg position_m velocity_mps radius_m speed_mps period_s damping }
-{
-    match aim {
-        Aim::Line(line) => {
-            let point = line.point;
-            let direction = line.direction;
-            let tracked = track_to(
-                position_m,
-                velocity_mps,
-                point,
+    #[tactic(auto, unfolding(crate::specs::Code::Steering::line_by))]
+    fn line(self, position_m: Vec2) -> Option<Line>
+        ensures { result ≡ steering.line_of self position_m }
+    {
+        match self.leg {
+            None => self.tangent(position_m),
+            Some(direction) => Some(Line {
+                point: self.point_m,
                 direction,
-                speed_mps,
-                period_s,
-                damping,
-            );
-            with_centripetal(leg, speed_mps, radius_m, tracked)
+            }),
         }
-        Aim::Center => Lateral {
-            accel_mps2: centripetal(speed_mps, radius_m),
-            cross_track_m: 0.0,
-            idle: false,
-        },
+    }
+
+    #[tactic(auto, unfolding(crate::specs::Navigation::centripetal))]
+    fn centripetal(self, speed_mps: f32) -> f32
+        ensures { result ≡ spec.centripetal speed_mps self.radius_m }
+    {
+        speed_mps * speed_mps / self.radius_m
+    }
+
+    // What a loiter adds to track.
+    #[tactic(auto, unfolding(crate::specs::Code::Steering::with_centripetal))]
+    fn with_centripetal(self, speed_mps: f32, tracked: Lateral) -> Lateral
+        ensures { result ≡ steering.with_centripetal self.leg speed_mps self.radius_m tracked }
+    {
+        match self.leg {
+            None => Lateral {
+                accel_mps2: self.centripetal(speed_mps) + tracked.accel_mps2,
+                cross_track_m: tracked.cross_track_m,
+                idle: false,
+            },
+            Some(_) => tracked,
+        }
     }
 }
 
-// Track along a leg, and without one a loiter around the point. Both laws in one, so that the speed is measured once and
-// track has one place where it is called.
+// Track along a leg, and without one a loiter around the point. Both laws in one, so that the speed is measured once. This and the
+// functions below have the Rust's parameters, which the guidance and the rows of the test cases hand over one by one.
+#[tactic(auto, using(crate::proofs::Steering::gives_up, crate::proofs::Steering::steers))]
 pub fn lateral_accel_mps2(
-    leg: OptionVec2,
+    leg: Option<Vec2>,
     position_m: Vec2,
     velocity_mps: Vec2,
     point_m: Vec2,
@@ -274,27 +264,24 @@ pub fn lateral_accel_mps2(
     ensures { result ≡ spec.lateral_accel leg position_m velocity_mps point_m radius_m period_s damping }
 {
     let speed_mps = norm(velocity_mps);
-    let idle = no_course(speed_mps);
-    if idle | bad_radius(leg, radius_m) {
-        return Lateral {
-            accel_mps2: 0.0,
-            cross_track_m: 0.0,
-            idle,
-        };
-    }
-    let aim = aim_of(leg, position_m, point_m, radius_m);
-    steer(
-        aim,
+    let waypoint = Waypoint {
         leg,
+        point_m,
+        radius_m,
+    };
+    let idle = no_course(speed_mps);
+    if idle | waypoint.has_bad_radius() {
+        return Lateral::level(idle);
+    }
+    let motion = Motion {
         position_m,
         velocity_mps,
-        radius_m,
         speed_mps,
-        period_s,
-        damping,
-    )
+    };
+    motion.steer(waypoint, Tuning { period_s, damping })
 }
 
+#[tactic(auto, unfolding(crate::specs::Navigation::lateral_accel))]
 pub fn track_accel_mps2(
     position_m: Vec2,
     velocity_mps: Vec2,
@@ -305,7 +292,7 @@ pub fn track_accel_mps2(
 ) -> Lateral
     ensures { result ≡ spec.track_accel position_m velocity_mps point_m direction period_s damping }
 {
-    let leg = OptionVec2::Some(direction);
+    let leg = Some(direction);
     lateral_accel_mps2(
         leg,
         position_m,
@@ -317,6 +304,7 @@ pub fn track_accel_mps2(
     )
 }
 
+#[tactic(auto, unfolding(crate::specs::Navigation::lateral_accel))]
 pub fn loiter_accel_mps2(
     position_m: Vec2,
     velocity_mps: Vec2,
@@ -328,7 +316,7 @@ pub fn loiter_accel_mps2(
     ensures { result ≡ spec.loiter_accel position_m velocity_mps center_m radius_m period_s damping }
 {
     lateral_accel_mps2(
-        OptionVec2::None,
+        None,
         position_m,
         velocity_mps,
         center_m,
@@ -338,21 +326,14 @@ pub fn loiter_accel_mps2(
     )
 }
 
-pub fn finite_leg(leg: OptionVec2) -> OptionVec2
+#[tactic(auto, unfolding(crate::specs::Navigation::finite_leg))]
+pub fn finite_leg(leg: Option<Vec2>) -> Option<Vec2>
     ensures { result ≡ spec.finite_leg leg }
 {
-    match leg {
-        OptionVec2::None => OptionVec2::None,
-        OptionVec2::Some(v) => {
-            if all_finite(v) {
-                OptionVec2::Some(v)
-            } else {
-                OptionVec2::None
-            }
-        }
-    }
+    leg.filter(|v| all_finite(*v))
 }
 
+#[tactic(auto, unfolding(crate::specs::Navigation::bank_for_accel))]
 pub fn bank_for_accel_rad(accel_mps2: f32) -> f32
     ensures { result ≡ spec.bank_for_accel accel_mps2 }
 {
@@ -360,35 +341,15 @@ pub fn bank_for_accel_rad(accel_mps2: f32) -> f32
     choose(is_finite(bank), bank, 0.0)
 }
 
+#[tactic(auto, unfolding(crate::specs::Navigation::pi_pinned))]
 fn pi_pinned(unclamped: f32, error: f32, low: f32, high: f32) -> bool
     ensures { result ≡ spec.pi_pinned unclamped error low high }
 {
     ((unclamped >= high) & (error > 0.0)) | ((unclamped <= low) & (error < 0.0))
 }
 
-fn pi_finite(
-    pi: PiLoop,
-    dt: f32,
-    error: f32,
-    p: f32,
-    i: f32,
-    max_integral: f32,
-    low: f32,
-    high: f32,
-) -> PiResult
-    ensures { result ≡ spec.pi_finite pi dt error p i max_integral low high }
-{
-    let top = greatest(high, low);
-    let pinned = pi_pinned(p * error + i * pi.integral, error, low, top);
-    let grown = clamp_symmetric(pi.integral + error * dt, max_integral);
-    let integral = choose(pinned, pi.integral, grown);
-    PiResult {
-        output: clamp_ordered(p * error + i * integral, low, top),
-        pi: PiLoop { integral },
-    }
-}
-
 // The Rust's PiLoop::step.
+#[tactic(auto, using(crate::proofs::Ordered::greatest_ordered), unfolding(crate::specs::Navigation::pi_step, crate::specs::Navigation::pi_finite))]
 pub fn pi_step(
     pi: PiLoop,
     dt: f32,
@@ -402,12 +363,18 @@ pub fn pi_step(
 ) -> PiResult
     ensures { result ≡ spec.pi_step pi dt error p i max_integral low high fallback }
 {
-    if is_finite(error) {
-        pi_finite(pi, dt, error, p, i, max_integral, low, high)
-    } else {
-        PiResult {
+    if !is_finite(error) {
+        return PiResult {
             output: fallback,
             pi,
-        }
+        };
+    }
+    let top = greatest(high, low);
+    let pinned = pi_pinned(p * error + i * pi.integral, error, low, top);
+    let grown = clamp_symmetric(pi.integral + error * dt, max_integral);
+    let integral = choose(pinned, pi.integral, grown);
+    PiResult {
+        output: clamp_ordered(p * error + i * integral, low, top),
+        pi: PiLoop { integral },
     }
 }

@@ -1,4 +1,5 @@
-// Total energy control: thrust sets the rate of the total energy, pitch the balance between height and airspeed.
+// Total energy control: thrust sets the rate of the total energy, pitch the balance between height and airspeed. The functions are the
+// Rust's, with its parameters: a struct of configuration and inputs would be one more name for what each call hands on as it is.
 ghost use Rattle.std.specs.Prelude.{◌≡◌};
 ghost use Rattle.laws.specs.Tecs as spec;
 
@@ -19,23 +20,24 @@ const THRUST_INTEGRAL_MARGIN: f32 = 0.1;
 
 // Height and airspeed demands, slewed toward the targets.
 #[repr(C)]
-#[derive(Clone, Copy)]
+#[derive(Clone, Copy, Default)]
 pub struct Demand {
     pub slewed_height_m: f32,
     pub height_m: f32,
     pub airspeed_mps: f32,
 }
 
-// The stored energy state: f32 and u32 only, since a host holds it. `seeded` and `underspeed` are flags, 0 or not 0.
-// The Rust's three Options (demand, filtered airspeed, steady acceleration) are set and cleared together, so that
-// one flag, `seeded`, says of all three whether they are present; absent, they are +0.
+// The stored energy state: f32 and u32 only, since a host holds it. The Rust's three Options (demand, filtered airspeed, steady
+// acceleration) are set and cleared together, so that one flag, `seeded`, says of all three whether they are present; absent, they are +0.
 #[repr(C)]
-#[derive(Clone, Copy)]
+#[derive(Clone, Copy, Default)]
 pub struct Tecs {
+    // A flag, 0 or not 0: the C interface gives words, and each call hands back the one that it was given.
     pub seeded: u32,
     pub demand: Demand,
     pub pitch_integral_rad: f32,
     pub thrust_integral: f32,
+    // A flag, 0 or not 0, and no bool, for the same reason.
     pub underspeed: u32,
     pub filtered_airspeed_mps: f32,
     pub steady_accel_mps2: f32,
@@ -119,24 +121,14 @@ pub fn flag(n: u32) -> bool
 }
 
 // The Rust's Tecs::default, which its reset stores.
+#[tactic(auto, unfolding(crate::specs::Tecs::reset))]
 pub fn reset() -> Tecs
     ensures { result ≡ spec.reset }
 {
-    Tecs {
-        seeded: 0,
-        demand: Demand {
-            slewed_height_m: 0.0,
-            height_m: 0.0,
-            airspeed_mps: 0.0,
-        },
-        pitch_integral_rad: 0.0,
-        thrust_integral: 0.0,
-        underspeed: 0,
-        filtered_airspeed_mps: 0.0,
-        steady_accel_mps2: 0.0,
-    }
+    Tecs::default()
 }
 
+#[tactic(auto, unfolding(crate::specs::Tecs::update_underspeed))]
 pub fn update_underspeed(underspeed: u32, config: TecsConfig, airspeed_mps: f32) -> u32
     ensures { result ≡ spec.update_underspeed underspeed config airspeed_mps }
 {
@@ -162,6 +154,7 @@ pub fn least_energy_rate(config: TecsConfig) -> f32
     -GRAVITY * config.max_sink_mps
 }
 
+#[tactic(auto, using(crate::proofs::Ordered::greatest_ordered), unfolding(crate::specs::Tecs::clamp_airspeed))]
 fn clamp_airspeed(config: TecsConfig, airspeed_mps: f32) -> f32
     ensures { result ≡ spec.clamp_airspeed config airspeed_mps }
 {
@@ -173,6 +166,7 @@ fn clamp_airspeed(config: TecsConfig, airspeed_mps: f32) -> f32
     )
 }
 
+#[tactic(auto, unfolding(crate::specs::Tecs::seed_demand))]
 fn seed_demand(config: TecsConfig, inputs: Inputs) -> Demand
     ensures { result ≡ spec.seed_demand config inputs }
 {
@@ -184,17 +178,18 @@ fn seed_demand(config: TecsConfig, inputs: Inputs) -> Demand
     }
 }
 
+#[tactic(auto, unfolding(crate::specs::Tecs::previous_demand))]
 fn previous_demand(s: Tecs, config: TecsConfig, inputs: Inputs) -> Demand
     ensures { result ≡ spec.previous_demand s config inputs }
 {
     if flag(s.seeded) {
-        let demand = s.demand;
-        demand
+        s.demand
     } else {
         seed_demand(config, inputs)
     }
 }
 
+#[tactic(auto, unfolding(crate::specs::Tecs::slewed_height))]
 fn slewed_height(previous_m: f32, config: TecsConfig, inputs: Inputs) -> f32
     ensures { result ≡ spec.slewed_height previous_m config inputs }
 {
@@ -211,6 +206,7 @@ fn slewed_height(previous_m: f32, config: TecsConfig, inputs: Inputs) -> f32
     )
 }
 
+#[tactic(auto, unfolding(crate::specs::Tecs::slewed_airspeed))]
 fn slewed_airspeed(previous_mps: f32, config: TecsConfig, inputs: Inputs, speed_mps: f32) -> f32
     ensures { result ≡ spec.slewed_airspeed previous_mps config inputs speed_mps }
 {
@@ -224,6 +220,7 @@ fn slewed_airspeed(previous_mps: f32, config: TecsConfig, inputs: Inputs, speed_
         )
 }
 
+#[tactic(auto, unfolding(crate::specs::Tecs::next_demand))]
 fn next_demand(d: Demand, config: TecsConfig, inputs: Inputs, speed_mps: f32) -> Demand
     ensures { result ≡ spec.next_demand d config inputs speed_mps }
 {
@@ -246,6 +243,7 @@ fn accel_of(filtered_mps: f32, config: TecsConfig, inputs: Inputs) -> f32
     (inputs.airspeed_mps - filtered_mps) / config.airspeed_rate_time_constant_s
 }
 
+#[tactic(auto, unfolding(crate::specs::Tecs::previous_filter, crate::specs::Tecs::seed_filter))]
 fn previous_filter(s: Tecs, config: TecsConfig, inputs: Inputs) -> Filter
     ensures { result ≡ spec.previous_filter s config inputs }
 {
@@ -262,6 +260,7 @@ fn previous_filter(s: Tecs, config: TecsConfig, inputs: Inputs) -> Filter
     }
 }
 
+#[tactic(auto, unfolding(crate::specs::Tecs::next_filter))]
 fn next_filter(filter: Filter, config: TecsConfig, inputs: Inputs) -> Filter
     ensures { result ≡ spec.next_filter filter config inputs }
 {
@@ -282,6 +281,7 @@ fn next_filter(filter: Filter, config: TecsConfig, inputs: Inputs) -> Filter
     }
 }
 
+#[tactic(auto, unfolding(crate::specs::Tecs::energies_of))]
 fn energies_of(
     previous: Demand,
     next: Demand,
@@ -314,6 +314,7 @@ fn energies_of(
 }
 
 // The Rust's Tecs::energies, whose name differs from its struct's only in the case of a letter.
+#[tactic(auto, unfolding(crate::specs::Tecs::energies))]
 pub fn update_energies(
     s: Tecs,
     config: TecsConfig,
@@ -334,6 +335,7 @@ pub fn update_energies(
     }
 }
 
+#[tactic(auto, unfolding(crate::specs::Tecs::turn_rate))]
 fn turn_rate(config: TecsConfig, roll_rad: f32) -> f32
     ensures { result ≡ spec.turn_rate config roll_rad }
 {
@@ -346,6 +348,7 @@ fn turn_rate(config: TecsConfig, roll_rad: f32) -> f32
     )
 }
 
+#[tactic(auto, unfolding(crate::specs::Tecs::feedforward))]
 fn feedforward(rate: f32, config: TecsConfig, limits: Limits) -> f32
     ensures { result ≡ spec.feedforward rate config limits }
 {
@@ -357,6 +360,7 @@ fn feedforward(rate: f32, config: TecsConfig, limits: Limits) -> f32
     }
 }
 
+#[tactic(auto, unfolding(crate::specs::Tecs::balanced_thrust))]
 fn balanced_thrust(
     integral: f32,
     config: TecsConfig,
@@ -393,6 +397,7 @@ fn balanced_thrust(
     }
 }
 
+#[tactic(auto, unfolding(crate::specs::Tecs::thrust))]
 pub fn thrust(
     underspeed: u32,
     integral: f32,
@@ -413,6 +418,7 @@ pub fn thrust(
     balanced_thrust(integral, config, limits, e, dt, roll_rad)
 }
 
+#[tactic(auto, unfolding(crate::specs::Tecs::pitch_integral))]
 fn pitch_integral(pinned: bool, integral: f32, step: f32, dt: f32, config: TecsConfig) -> f32
     ensures { result ≡ spec.pitch_integral pinned integral step dt config }
 {
@@ -423,6 +429,7 @@ fn pitch_integral(pinned: bool, integral: f32, step: f32, dt: f32, config: TecsC
     }
 }
 
+#[tactic(auto, unfolding(crate::specs::Tecs::pitch))]
 pub fn pitch(
     underspeed: u32,
     integral: f32,
@@ -462,6 +469,7 @@ pub fn pitch(
     }
 }
 
+#[tactic(auto, unfolding(crate::specs::Tecs::all_inputs_finite))]
 pub fn all_inputs_finite(inputs: Inputs) -> bool
     ensures { result ≡ spec.all_inputs_finite inputs }
 {
@@ -473,6 +481,7 @@ pub fn all_inputs_finite(inputs: Inputs) -> bool
 }
 
 // What the Rust's step gives where an input is not finite.
+#[tactic(auto, unfolding(crate::specs::Tecs::hold))]
 pub fn hold(s: Tecs, limits: Limits) -> TecsResult
     ensures { result ≡ spec.hold s limits }
 {
@@ -484,6 +493,7 @@ pub fn hold(s: Tecs, limits: Limits) -> TecsResult
 }
 
 // What the Rust's step gives where all inputs are finite.
+#[tactic(auto, unfolding(crate::specs::Tecs::energy_step))]
 pub fn energy_step(s: Tecs, config: TecsConfig, limits: Limits, inputs: Inputs) -> TecsResult
     ensures { result ≡ spec.energy_step s config limits inputs }
 {
@@ -525,6 +535,7 @@ pub fn energy_step(s: Tecs, config: TecsConfig, limits: Limits, inputs: Inputs) 
 }
 
 // The Rust's Tecs::step. The guidance, which names its law first, calls the two parts.
+#[tactic(auto, unfolding(crate::specs::Tecs::step))]
 pub fn step(s: Tecs, config: TecsConfig, limits: Limits, inputs: Inputs) -> TecsResult
     ensures { result ≡ spec.step s config limits inputs }
 {

@@ -15,18 +15,10 @@ pub struct Vec3 {
     pub z: f32,
 }
 
-// The Rust's Option<f32>.
-#[derive(Clone, Copy)]
-pub enum OptionF32 {
-    None,
-    Some(f32),
-}
-
-// The Rust's Option<Vec2>.
-#[derive(Clone, Copy)]
-pub enum OptionVec2 {
-    None,
-    Some(Vec2),
+pub fn north_east(v: Vec3) -> Vec2
+    ensures { result ≡ spec.north_east v }
+{
+    Vec2 { x: v.x, y: v.y }
 }
 
 // Sticks: roll and pitch in [-1, 1], throttle in [0, 1].
@@ -49,7 +41,7 @@ pub struct RateCommand {
 #[derive(Clone, Copy)]
 pub struct WaypointCommand {
     pub position_m: Vec2,
-    pub velocity_mps: OptionVec2,
+    pub velocity_mps: Option<Vec2>,
     pub altitude_m: f32,
     pub cruise_speed_mps: f32,
 }
@@ -91,7 +83,7 @@ pub struct VehicleState {
     pub position_m: Vec3,
     pub velocity_mps: Vec3,
     pub roll_rad: f32,
-    pub airspeed_mps: OptionF32,
+    pub airspeed_mps: Option<f32>,
 }
 
 // Document 01: a plane setpoint or a plane rate setpoint.
@@ -110,25 +102,17 @@ pub enum Setpoint {
     },
 }
 
-pub fn at_least_zero(a: OptionF32) -> OptionF32
+#[tactic(auto, unfolding(crate::specs::Types::at_least_zero))]
+pub fn at_least_zero(a: Option<f32>) -> Option<f32>
     ensures { result ≡ spec.at_least_zero a }
 {
-    match a {
-        OptionF32::None => OptionF32::None,
-        OptionF32::Some(n) => {
-            if n >= 0.0 {
-                OptionF32::Some(n)
-            } else {
-                OptionF32::None
-            }
-        }
-    }
+    a.filter(|n| *n >= 0.0)
 }
 
 // The airspeed where it is usable: a NaN or a number below 0 counts as none.
-pub fn valid_airspeed_mps(state: VehicleState) -> OptionF32
+#[tactic(auto, unfolding(crate::specs::Types::valid_airspeed))]
+pub fn valid_airspeed_mps(state: VehicleState) -> Option<f32>
     ensures { result ≡ spec.valid_airspeed state }
 {
-    let a = state.airspeed_mps;
-    at_least_zero(a)
+    at_least_zero(state.airspeed_mps)
 }

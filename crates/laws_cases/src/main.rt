@@ -4,37 +4,47 @@
 #![tactic(auto)]
 
 mod check;
-mod rows;
 
-use case_rows::{Count, print_count};
+use case_rows::{Row, try_group};
+use laws::{math, navigation};
 use std::io;
 
 fn main(rt: HostRuntime) -> io::Result<()> {
-    let mut total = Count { rows: 0, right: 0 };
-    total = rows::try_group(&rt, "saturate_unit", 0, 2, total)?;
-    total = rows::try_group(&rt, "saturate_symmetric", 1, 3, total)?;
-    total = rows::try_group(&rt, "saturate_throttle", 2, 2, total)?;
-    total = rows::try_group(&rt, "limit_or_zero", 3, 2, total)?;
-    total = rows::try_group(&rt, "clamp_symmetric", 4, 3, total)?;
-    total = rows::try_group(&rt, "lagged", 5, 5, total)?;
-    total = rows::try_group(&rt, "l1", 6, 5, total)?;
-    total = rows::try_group(&rt, "track_accel_mps2", 7, 11, total)?;
-    total = rows::try_group(&rt, "loiter_accel_mps2", 8, 10, total)?;
-    total = rows::try_group(&rt, "bank_for_accel_rad", 9, 2, total)?;
-    total = rows::try_group(&rt, "pi_step", 10, 11, total)?;
-    total = rows::try_group(&rt, "update_underspeed", 11, 19, total)?;
-    total = rows::try_group(&rt, "energies", 12, 49, total)?;
-    total = rows::try_group(&rt, "thrust", 13, 50, total)?;
-    total = rows::try_group(&rt, "pitch", 14, 49, total)?;
-    total = rows::try_group(&rt, "tecs_step", 15, 49, total)?;
-    total = rows::try_group(&rt, "validate", 16, 34, total)?;
-    total = rows::try_group(&rt, "default", 17, 33, total)?;
-    total = rows::try_group(&rt, "document_01_saturate_unit", 0, 2, total)?;
-    total = rows::try_group(&rt, "document_01_clamp_symmetric", 4, 3, total)?;
-    total = rows::try_group(&rt, "document_01_lagged", 5, 5, total)?;
-    total = rows::try_group(&rt, "document_01_pi_step", 10, 11, total)?;
-    total = rows::try_group(&rt, "document_01_update_underspeed", 11, 19, total)?;
-    total = rows::try_group(&rt, "document_01_validate", 16, 34, total)?;
-    total = rows::try_group(&rt, "document_02_validate", 16, 34, total)?;
-    print_count(&rt, b"total", total)
+    let saturate_unit = |row: &Row| check::of_one(row, math::saturate_unit);
+    let saturate_symmetric = |row: &Row| check::of_two(row, math::saturate_symmetric);
+    let saturate_throttle = |row: &Row| check::of_one(row, math::saturate_throttle);
+    let limit_or_zero = |row: &Row| check::of_one(row, math::limit_or_zero);
+    let clamp_symmetric = |row: &Row| check::of_two(row, math::clamp_symmetric);
+    let bank_for_accel = |row: &Row| check::of_one(row, navigation::bank_for_accel_rad);
+    let mut total = try_group(&rt, "saturate_unit", 2, saturate_unit)?;
+    total += try_group(&rt, "saturate_symmetric", 3, saturate_symmetric)?;
+    total += try_group(&rt, "saturate_throttle", 2, saturate_throttle)?;
+    total += try_group(&rt, "limit_or_zero", 2, limit_or_zero)?;
+    total += try_group(&rt, "clamp_symmetric", 3, clamp_symmetric)?;
+    total += try_group(&rt, "lagged", 5, check::lagged)?;
+    total += try_group(&rt, "l1", 5, check::l1)?;
+    total += try_group(&rt, "track_accel_mps2", 11, check::track)?;
+    total += try_group(&rt, "loiter_accel_mps2", 10, check::loiter)?;
+    total += try_group(&rt, "bank_for_accel_rad", 2, bank_for_accel)?;
+    total += try_group(&rt, "pi_step", 11, check::pi_step)?;
+    total += try_group(&rt, "update_underspeed", 19, check::update_underspeed)?;
+    total += try_group(&rt, "energies", 49, check::energies)?;
+    total += try_group(&rt, "thrust", 50, check::thrust)?;
+    total += try_group(&rt, "pitch", 49, check::pitch)?;
+    total += try_group(&rt, "tecs_step", 49, check::tecs_step)?;
+    total += try_group(&rt, "validate", 34, check::validate)?;
+    total += try_group(&rt, "default", 33, check::default)?;
+    total += try_group(&rt, "document_01_saturate_unit", 2, saturate_unit)?;
+    total += try_group(&rt, "document_01_clamp_symmetric", 3, clamp_symmetric)?;
+    total += try_group(&rt, "document_01_lagged", 5, check::lagged)?;
+    total += try_group(&rt, "document_01_pi_step", 11, check::pi_step)?;
+    total += try_group(
+        &rt,
+        "document_01_update_underspeed",
+        19,
+        check::update_underspeed,
+    )?;
+    total += try_group(&rt, "document_01_validate", 34, check::validate)?;
+    total += try_group(&rt, "document_02_validate", 34, check::validate)?;
+    println!(rt; "total: {total}")
 }

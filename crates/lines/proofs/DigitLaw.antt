@@ -1,21 +1,19 @@
 -- Digits, decimal and hexadecimal. Assumes nothing.
 use mathlib.Core.Path.{◌≡◌, refl, sym, ap, ◌∙◌}
 use mathlib.Core.Bool.{Bool, true, false}
-use mathlib.Core.List.{List, [], ◌∷◌, ◌++◌, append_assoc}
-use Prim.Native.Nat.{ℕ, zero, suc, ◌+◌, ◌-◌, ◌/◌, ◌%◌, ◌<◌, ◌≤◌, ◌^◌}
+use mathlib.Core.List.{List, [], ◌∷◌, ◌++◌, append_assoc, append-nil}
+use Prim.Native.Nat.{ℕ, zero, suc, ◌+◌, ◌-◌, ◌/◌, ◌%◌, ◌*◌, ◌<◌, ◌≤◌, ◌^◌}
 use native.Mathlib.Omega.{arith}
-use native.Mathlib.Nat.{pow-suc, zero-add}
+use native.Mathlib.Nat.{pow-suc}
+use native.Mathlib.Numerals.{add-one}
 use borrow.Author.Tests.{lt-ltb, le-ltb, ltb-true, ltb-false}
 use lib.Dec.{ltb}
-use lib.ListN.{length, set, drop, length-append, length-set}
-use lib.Seq.{drop-cons, drop-set-lt, get_or-set_same}
+use lib.ListN.{length, set, take, drop, length-append}
+use lib.Seq.{drop-length, length-take-le}
+use Rattle.std.specs.Prelude.{Option, Some, None, IfNone, IfSome, unwrap_or}
+use Rattle.std.proofs.lemmas.List.{drop-set}
 use Rattle.lines.specs.Line.{digit, digits, decimal_in, decimal, Puts}
-
-pub low_digit : (d : ℕ) → d < 10 → 48 + d ≡ digit d
-low_digit d h = rw (lt-ltb d 10 h)
-
-pub high_digit : (d : ℕ) → 10 ≤ d → 87 + d ≡ digit d
-high_digit d h = rw (le-ltb d 10 h)
+use Rattle.lines.proofs.PutLaw.{puts_front}
 
 digits_none : (base v : ℕ) → digits base 0 v ≡ []
 unfolding digits
@@ -30,38 +28,23 @@ digits_long base zero v = rw (digits_none base v)
 digits_long base (suc n) v =
     rw (digits_more base n v) (length-append (digits base n (v / base)) _ ∙ omega (arith, digits_long base n (v / base)))
 
--- ---- `put_hex` and `put_decimal`: digits i to k are written, v is what is left of the number
+-- ---- `put_digits`: the digits from i on stand in the part, v is what is left of the number
 
-pub record Digits (base k n : ℕ) (part₀ part : List ℕ) (v i : ℕ) : Type 0 where
-  pub below : i ≤ k
-  pub room : k ≤ length part₀
-  pub long : length part ≡ length part₀
-  pub is : digits base i v ++ drop i part ≡ digits base k n ++ drop k part₀
+pub digits_start : (base n : ℕ) (part : List ℕ) → digits base (length part) n ++ drop (length part) part ≡ digits base (length part) n
+digits_start base n part = rw (drop-length part) (append-nil (digits base (length part) n))
 
-pub digits_start : (base k n : ℕ) (part : List ℕ) → k ≤ length part → Digits base k n part part n k
-digits_start base k n part h = record { below = omega arith; room = h; long = refl; is = refl }
+pub digits_turn : (base v d i : ℕ) (part : List ℕ) → 0 < i → i ≤ length part → d ≡ digit (v % base)
+    → digits base (i - 1) (v / base) ++ drop (i - 1) (set part (i - 1) d) ≡ digits base i v ++ drop i part
+digits_turn base v d i part h b e =
+    let s : i ≡ i - 1 + 1 = omega arith in
+    let more : digits base i v ≡ digits base (i - 1) (v / base) ++ (d ∷ []) =
+    ap (λ (k : ℕ). digits base k v) (s ∙ add-one (i - 1)) ∙ rw e (digits_more base (i - 1) v) in
+    rw (drop-set part (i - 1) d (omega arith), ← s, more) (sym (append_assoc (digits base (i - 1) (v / base)) (d ∷ []) (drop i part)))
 
-module _ {base k n : ℕ} {part₀ part : List ℕ} {v i : ℕ} (f : Digits base k n part₀ part v i) where
-  pub digits_turn : 0 < i → (d : ℕ) → d ≡ digit (v % base) → Digits base k n part₀ (set part (i - 1) d) (v / base) (i - 1)
-  digits_turn h d e =
-      let s : i ≡ suc (i - 1) = omega arith in
-      let in_part : i - 1 < length (set part (i - 1) d) = simp length-set (omega (arith, f.below, f.room, f.long)) in
-      let rest : drop (i - 1) (set part (i - 1) d) ≡ d ∷ drop i part =
-      drop-cons (set part (i - 1) d) (i - 1) 0 in_part
-      ∙ rw (get_or-set_same part (i - 1) d 0 (omega (arith, f.below, f.room, f.long)), ← s, drop-set-lt i part (i - 1) d (omega arith)) in
-      let more : digits base i v ≡ digits base (i - 1) (v / base) ++ (d ∷ []) = ap (λ (m : ℕ). digits base m v) s ∙ digits_more base (i - 1) v ∙ rw e in
-      record {
-        below = omega (arith, f.below);
-        room = f.room;
-        long = simp length-set f.long;
-        is = rw rest (sym (append_assoc (digits base (i - 1) (v / base)) (d ∷ []) (drop i part)) ∙ ap (λ (l : List ℕ). l ++ drop i part) (sym more) ∙ f.is);
-      }
+pub no_digits : (base v i : ℕ) → i ≤ 0 → digits base i v ≡ []
+no_digits base v i h = let z : i ≡ 0 = omega arith in rw z (digits_none base v)
 
-  pub digits_done : i ≤ 0 → Puts (digits base k n) part₀ part k
-  digits_done h =
-      let z : i ≡ 0 = omega arith in
-      let e : part ≡ digits base k n ++ drop k part₀ = rw (z, digits_none base v) at f.is in
-      record { bytes = rw (digits_long base k n, zero-add k) e; size = sym (digits_long base k n) }
+pub ruleset digit_steps = (digits_start, digits_turn, no_digits)
 
 -- ---- how many decimal digits
 
@@ -102,31 +85,25 @@ decimal_short (suc n) v = go (ltb v 10) refl (decimal_short n (v / 10))
     go true e ih = rw (decimal_last n v (ltb-true v 10 e)) (omega arith)
     go false e ih = rw (decimal_more n v (ltb-false v 10 e)) (simp length-append (omega arith))
 
--- `width`: v is the number without its k - 1 lowest digits
-pub record Width (n v k : ℕ) : Type 0 where
-  pub high : k ≤ 10
-  pub small : v < 10 ^ suc (10 - k)
-  pub is : k + length (decimal_in (suc (10 - k)) v) ≡ 1 + length (decimal n)
+-- as many digits as a decimal has, put at the front
+pub decimal_puts : (k n : ℕ) (part lent : List ℕ) → k ≡ length (decimal n) → k ≤ length part → lent ≡ digits 10 (length (take k part)) n
+    → Puts (decimal n) part (lent ++ drop k part) k
+decimal_puts k n part lent e h d =
+    let is : lent ≡ decimal n = d ∙ rw (length-take-le k part h, e) (sym (decimal_is 10 n)) in
+    rw is (puts_front (decimal n) part k e)
 
-pub width_starts : (n : ℕ) → n < 2 ^ 32 → Width n n 1
-width_starts n h = record { high = omega arith; small = omega arith; is = refl }
+-- a number between two powers of ten
+decimal_width : (k n v : ℕ) → k < n → 10 ^ k ≤ v → v < 10 * 10 ^ k → length (decimal_in n v) ≡ k + 1
+decimal_width zero zero v h low high = absurd (omega arith)
+decimal_width (suc k) zero v h low high = absurd (omega arith)
+decimal_width zero (suc n) v h low high = rw (decimal_last n v (omega arith)) refl
+decimal_width (suc k) (suc n) v h low high =
+    let ten : 10 ^ suc k ≡ 10 ^ k * 10 = pow-suc 10 k in
+    let ih : length (decimal_in n (v / 10)) ≡ k + 1 = decimal_width k n (v / 10) (omega arith) (omega arith) (omega arith) in
+    rw (decimal_more n v (omega arith)) (length-append (decimal_in n (v / 10)) _ ∙ omega arith)
 
-two_digits : (j v : ℕ) → 10 ≤ v → v < 10 ^ suc j → 0 < j
-two_digits zero v l h = absurd (omega arith)
-two_digits (suc j) v l h = omega arith
-
-module _ {n v k : ℕ} (f : Width n v k) where
-  pub width_turn : 10 ≤ v → Width n (v / 10) (k + 1)
-  width_turn h =
-      let j : 10 - k ≡ suc (10 - (k + 1)) = omega (arith, two_digits (10 - k) v h f.small) in
-      record {
-        high = omega (arith, two_digits (10 - k) v h f.small);
-        small = rw (← j) (omega (arith, rw (pow-suc 10 (10 - k)) at f.small));
-        is =
-            let l : length (decimal_in (suc (10 - k)) v) ≡ suc (length (decimal_in (10 - k) (v / 10))) =
-            rw (decimal_more (10 - k) v h) (length-append (decimal_in (10 - k) (v / 10)) _ ∙ omega arith) in
-            rw (← j) (omega (arith, f.is, l));
-      }
-
-  pub width_done : v < 10 → k ≡ length (decimal n)
-  width_done h = omega (arith, f.is, ap length (decimal_last (10 - k) v h))
+-- the logarithm says how many; 0, which has none, has one digit
+pub logarithm_width : (n : ℕ) (o : Option ℕ) → IfNone o (n ≡ 0) → IfSome o (λ k. 10 ^ k ≤ n) → IfSome o (λ k. n < 10 * 10 ^ k) → IfSome o (λ k. k < 10)
+    → unwrap_or o 0 + 1 ≡ length (decimal n)
+logarithm_width n None none low high few = rw (decimal_last 9 n (omega (arith, none))) refl
+logarithm_width n (Some k) none low high few = sym (decimal_width k 10 n few low high)

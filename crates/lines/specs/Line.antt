@@ -1,8 +1,11 @@
 -- The text of a line, as bytes: document 01, "Records and desk program". Definitions only.
-use Rattle.std.specs.Prelude.{◌≡◌, cond, List, [], ◌∷◌, ◌++◌, ℕ, zero, suc, ◌+◌, ◌/◌, ◌%◌, eqb, ltb, length, take}
+use Rattle.std.specs.Prelude.{◌≡◌, cond, List, [], ◌∷◌, ◌++◌, ℕ, zero, suc, ◌+◌, ◌/◌, ◌%◌, ltb, length, take, Option, Some, None}
+use Rattle.std.specs.List.{flat_map}
 use Rattle.fields.specs.Bytes.{put_at}
 use Rattle.lines.specs.declared.Word.{Word}
-use Rattle.lines.specs.declared.Word.TheVariants.{None, Plane, Rate, Prime, Track, Loiter, Idle, Energy, Hold, Fallback, Refused, Stopped}
+use Rattle.lines.specs.declared.Word.TheVariants.{Plane, Rate, Prime, Track, Loiter, Idle, Energy, Hold, Fallback, Refused, Stopped}
+use Rattle.lines.specs.declared.Values.{Values}
+use Rattle.lines.specs.declared.Values.TheVariants as count
 use Rattle.lines.specs.declared.Line.{Line}
 
 -- 0 to 9, a to f
@@ -29,7 +32,6 @@ decimal v = decimal_in 10 v
 
 -- a space and the word's letters
 unfoldable pub word : Word → List ℕ
-word None = []
 word Plane = 32 ∷ 112 ∷ 108 ∷ 97 ∷ 110 ∷ 101 ∷ []
 word Rate = 32 ∷ 114 ∷ 97 ∷ 116 ∷ 101 ∷ []
 word Prime = 32 ∷ 112 ∷ 114 ∷ 105 ∷ 109 ∷ 101 ∷ []
@@ -42,29 +44,46 @@ word Fallback = 32 ∷ 102 ∷ 97 ∷ 108 ∷ 108 ∷ 98 ∷ 97 ∷ 99 ∷ 107 �
 word Refused = 32 ∷ 114 ∷ 101 ∷ 102 ∷ 117 ∷ 115 ∷ 101 ∷ 100 ∷ []
 word Stopped = 32 ∷ 115 ∷ 116 ∷ 111 ∷ 112 ∷ 112 ∷ 101 ∷ 100 ∷ []
 
--- the call number, or `config`
-unfoldable pub subject : ℕ → List ℕ
-subject n = cond (eqb n 0) (99 ∷ 111 ∷ 110 ∷ 102 ∷ 105 ∷ 103 ∷ []) (decimal n)
+-- the call's number, or `config`
+unfoldable pub subject : Option ℕ → List ℕ
+subject None = 99 ∷ 111 ∷ 110 ∷ 102 ∷ 105 ∷ 103 ∷ []
+subject (Some n) = decimal n
 
--- a refusal's number, 0 for none
-unfoldable pub refusal : ℕ → List ℕ
-refusal n = cond (eqb n 0) [] (32 ∷ decimal n)
+-- a refusal's number, where there is one
+unfoldable pub refusal : Option ℕ → List ℕ
+refusal None = []
+refusal (Some n) = 32 ∷ decimal n
 
--- each value as a space and its bits
-unfoldable pub values : List ℕ → List ℕ
-values [] = []
-values (v ∷ vs) = (32 ∷ hex8 v) ++ values vs
+-- none, three or four; an array of three has three, which its list alone doesn't show
+abbrev pub listed : Values → List ℕ
+listed count.None = []
+listed (count.Three v) = take 3 v
+listed (count.Four v) = take 4 v
 
-unfoldable pub words : Word → Word → List ℕ
-words first second = word first ++ word second
+-- a space and a number's bits
+abbrev pub value : ℕ → List ℕ
+value v = 32 ∷ hex8 v
+
+-- each number so
+abbrev pub values : List ℕ → List ℕ
+values vs = flat_map value vs
+
+-- one word or two
+unfoldable pub words : Word → Option Word → List ℕ
+words first None = word first
+words first (Some second) = word first ++ word second
 
 -- a refusal's number and a list of values
-unfoldable pub numbers : ℕ → List ℕ → List ℕ
+unfoldable pub numbers : Option ℕ → List ℕ → List ℕ
 numbers r vs = refusal r ++ values vs
 
 -- a line, with its end
 unfoldable pub text : Line → List ℕ
-text l = subject l.number ++ words l.first l.second ++ numbers l.refusal (take l.count l.values) ++ (10 ∷ [])
+text l = subject l.call ++ words l.first l.second ++ numbers l.refusal (listed l.values) ++ (10 ∷ [])
+
+-- no line has more bytes
+abbrev pub line_room : ℕ
+line_room = 80
 
 -- what a writer does: bytes at the front of a part, whose other bytes are kept, and how many
 pub record Puts (bs before after : List ℕ) (r : ℕ) : Type 0 where

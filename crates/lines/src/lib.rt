@@ -1,13 +1,16 @@
-// Lines of text: a line is a number, words and a list of numbers. Each writer writes at the front of a lent part, keeps
+// Lines of text: a call's number, words and a list of numbers. Each writer writes at the front of a lent part, keeps
 // the part's other bytes, and answers how many it wrote.
+// Not by fmt::Display: tried, and put_line, which can't fail, didn't close: a formatter says what an Ok wrote, not that it is Ok.
 #![tactic(auto)]
 
-ghost use Rattle.std.specs.Prelude.{◌≡◌, List, ◌≤◌, ◌<◌, ◌+◌, length, take};
-ghost use Rattle.lines.specs.Line.{digit, decimal, hex8, word, words, subject, refusal, values, numbers, text, Puts};
+ghost use Rattle.std.specs.Prelude.{◌≡◌, ◌≤◌, ◌<◌, length};
+ghost use Rattle.lines.specs.Line.{digit, digits, decimal, hex8, value, word, words, subject, refusal, values, listed, numbers, text, Puts};
+
+// No line has more bytes.
+pub const LINE_ROOM: usize = 80;
 
 #[derive(Clone, Copy)]
 pub enum Word {
-    None,
     Plane,
     Rate,
     Prime,
@@ -21,47 +24,65 @@ pub enum Word {
     Stopped,
 }
 
-// `number` 0 is the configuration; `refusal` 0 is none; of `values` the first `count` are printed.
+// The numbers at a line's end.
+#[derive(Clone, Copy)]
+pub enum Values {
+    None,
+    Three([u32; 3]),
+    Four([u32; 4]),
+}
+
+// No `call` is the configuration.
 #[derive(Clone, Copy)]
 pub struct Line {
-    pub number: u32,
+    pub call: Option<u32>,
     pub first: Word,
-    pub second: Word,
-    pub refusal: u32,
-    pub values: [u32; 4],
-    pub count: usize,
+    pub second: Option<Word>,
+    pub refusal: Option<u32>,
+    pub values: Values,
+}
+
+impl Word {
+    // A space and the letters.
+    #[tactic(auto, unfolding(crate::specs::Line::word))]
+    fn letters(self) -> &'static [u8]
+        ensures { result.now ≡ word self }
+    {
+        match self {
+            Word::Plane => b" plane",
+            Word::Rate => b" rate",
+            Word::Prime => b" prime",
+            Word::Track => b" track",
+            Word::Loiter => b" loiter",
+            Word::Idle => b" idle",
+            Word::Energy => b" energy",
+            Word::Hold => b" hold",
+            Word::Fallback => b" fallback",
+            Word::Refused => b" refused",
+            Word::Stopped => b" stopped",
+        }
+    }
+}
+
+impl Values {
+    pub fn as_slice(&self) -> &[u32]
+        ensures { result.now ≡ listed self.now }
+    {
+        match self {
+            Values::None => &[],
+            Values::Three(three) => three,
+            Values::Four(four) => four,
+        }
+    }
 }
 
 fn put_bytes(part: &mut [u8], bytes: &[u8]) -> usize
     requires { length bytes.now ≤ length part.old }
     ensures { Puts bytes.now part.old part.new result }
 {
-    let mut i = 0;
-    while i < bytes.len() {
-        part[i] = bytes[i];
-        i += 1;
-    }
-    i
-}
-
-fn put_word(part: &mut [u8], w: Word) -> usize
-    requires { length (word w) ≤ length part.old }
-    ensures { Puts (word w) part.old part.new result }
-{
-    match w {
-        Word::None => 0,
-        Word::Plane => put_bytes(part, b" plane"),
-        Word::Rate => put_bytes(part, b" rate"),
-        Word::Prime => put_bytes(part, b" prime"),
-        Word::Track => put_bytes(part, b" track"),
-        Word::Loiter => put_bytes(part, b" loiter"),
-        Word::Idle => put_bytes(part, b" idle"),
-        Word::Energy => put_bytes(part, b" energy"),
-        Word::Hold => put_bytes(part, b" hold"),
-        Word::Fallback => put_bytes(part, b" fallback"),
-        Word::Refused => put_bytes(part, b" refused"),
-        Word::Stopped => put_bytes(part, b" stopped"),
-    }
+    let size = bytes.len();
+    part[..size].copy_from_slice(bytes);
+    size
 }
 
 fn digit_of(d: u32) -> u8
@@ -69,9 +90,22 @@ fn digit_of(d: u32) -> u8
     ensures { result ≡ digit d }
 {
     if d < 10 {
-        (48 + d) as u8
+        b'0' + d as u8
     } else {
-        (87 + d) as u8
+        b'a' - 10 + d as u8
+    }
+}
+
+// As many of a number's lowest digits as the part has bytes.
+#[tactic(auto, using(crate::proofs::DigitLaw::digit_steps))]
+fn put_digits<const BASE: u32>(part: &mut [u8], n: u32)
+    requires { (0 < BASE) × (BASE ≤ 16) }
+    ensures { part.new ≡ digits BASE (length part.old) n }
+{
+    let mut v = n;
+    for i in (0..part.len()).rev() {
+        part[i] = digit_of(v % BASE);
+        v /= BASE;
     }
 }
 
@@ -79,107 +113,110 @@ fn put_hex(part: &mut [u8], bits: u32) -> usize
     requires { 8 ≤ length part.old }
     ensures { Puts (hex8 bits) part.old part.new result }
 {
-    let mut v = bits;
-    let mut i: usize = 8;
-    while 0 < i {
-        i -= 1;
-        part[i] = digit_of(v % 16);
-        v = v / 16;
-    }
+    put_digits::<16>(&mut part[..8], bits);
     8
 }
 
 // How many decimal digits a number has.
+#[tactic(auto, using(crate::proofs::DigitLaw::logarithm_width))]
 fn width(n: u32) -> usize
     ensures { result ≡ length (decimal n) }
 {
-    let mut v = n;
-    let mut k: usize = 1;
-    while 10 <= v {
-        v = v / 10;
-        k += 1;
-    }
-    k
+    n.checked_ilog10().unwrap_or(0) as usize + 1
 }
 
+#[tactic(auto, using(crate::proofs::DigitLaw::decimal_puts))]
 pub fn put_decimal(part: &mut [u8], n: u32) -> usize
     requires { length (decimal n) ≤ length part.old }
     ensures { Puts (decimal n) part.old part.new result }
 {
     let k = width(n);
-    let mut v = n;
-    let mut i = k;
-    while 0 < i {
-        i -= 1;
-        part[i] = digit_of(v % 10);
-        v = v / 10;
-    }
+    put_digits::<10>(&mut part[..k], n);
     k
 }
 
-fn put_subject(part: &mut [u8], number: u32) -> usize
-    requires { length (subject number) ≤ length part.old }
-    ensures { Puts (subject number) part.old part.new result }
+#[tactic(auto, unfolding(crate::specs::Line::subject))]
+fn put_subject(part: &mut [u8], call: Option<u32>) -> usize
+    requires { length (subject call) ≤ length part.old }
+    ensures { Puts (subject call) part.old part.new result }
 {
-    if number == 0 {
-        put_bytes(part, b"config")
-    } else {
-        put_decimal(part, number)
+    match call {
+        None => put_bytes(part, b"config"),
+        Some(number) => put_decimal(part, number),
     }
 }
 
-fn put_refusal(part: &mut [u8], number: u32) -> usize
-    requires { length (refusal number) ≤ length part.old }
-    ensures { Puts (refusal number) part.old part.new result }
+fn put_word(part: &mut [u8], w: Word) -> usize
+    requires { length (word w) ≤ length part.old }
+    ensures { Puts (word w) part.old part.new result }
 {
-    if number == 0 {
-        return 0;
-    }
-    part[0] = 32;
-    1 + put_decimal(&mut part[1..], number)
+    put_bytes(part, w.letters())
 }
 
-fn put_values(part: &mut [u8], v: [u32; 4], count: usize) -> usize
-    requires { (count ≤ 4) × (length (values (take count v)) ≤ length part.old) }
-    ensures { Puts (values (take count v)) part.old part.new result }
-{
-    let mut at = 0;
-    let mut i = 0;
-    while i < count {
-        part[at] = 32;
-        at += 1;
-        at += put_hex(&mut part[at..], v[i]);
-        i += 1;
-    }
-    at
-}
-
-fn put_words(part: &mut [u8], first: Word, second: Word) -> usize
+#[tactic(auto, using(crate::proofs::PutLaw::puts), unfolding(crate::specs::Line::words))]
+fn put_words(part: &mut [u8], first: Word, second: Option<Word>) -> usize
     requires { length (words first second) ≤ length part.old }
     ensures { Puts (words first second) part.old part.new result }
 {
     let at = put_word(part, first);
-    at + put_word(&mut part[at..], second)
+    match second {
+        None => at,
+        Some(second) => at + put_word(&mut part[at..], second),
+    }
 }
 
-fn put_numbers(part: &mut [u8], refused: u32, v: [u32; 4], count: usize) -> usize
-    requires { (count ≤ 4) × (length (numbers refused (take count v)) ≤ length part.old) }
-    ensures { Puts (numbers refused (take count v)) part.old part.new result }
+#[tactic(auto, using(crate::proofs::PutLaw::puts), unfolding(crate::specs::Line::refusal))]
+fn put_refusal(part: &mut [u8], refused: Option<u32>) -> usize
+    requires { length (refusal refused) ≤ length part.old }
+    ensures { Puts (refusal refused) part.old part.new result }
+{
+    match refused {
+        None => 0,
+        Some(number) => {
+            part[0] = b' ';
+            1 + put_decimal(&mut part[1..], number)
+        }
+    }
+}
+
+#[tactic(auto, using(crate::proofs::PutLaw::puts, crate::proofs::DigitLaw::digits_long))]
+fn put_value(part: &mut [u8], v: u32) -> usize
+    requires { 9 ≤ length part.old }
+    ensures { Puts (value v) part.old part.new result }
+{
+    part[0] = b' ';
+    1 + put_hex(&mut part[1..], v)
+}
+
+#[tactic(auto, using(crate::proofs::PutLaw::puts, crate::proofs::TextLaw::values_room, crate::proofs::TextLaw::values_next))]
+fn put_values(part: &mut [u8], printed: &[u32]) -> usize
+    requires { length (values printed.now) ≤ length part.old }
+    ensures { Puts (values printed.now) part.old part.new result }
+{
+    let mut at = 0;
+    for v in printed {
+        at += put_value(&mut part[at..], *v);
+    }
+    at
+}
+
+#[tactic(auto, using(crate::proofs::PutLaw::puts), unfolding(crate::specs::Line::numbers))]
+fn put_numbers(part: &mut [u8], refused: Option<u32>, printed: Values) -> usize
+    requires { length (numbers refused (listed printed)) ≤ length part.old }
+    ensures { Puts (numbers refused (listed printed)) part.old part.new result }
 {
     let at = put_refusal(part, refused);
-    at + put_values(&mut part[at..], v, count)
+    at + put_values(&mut part[at..], printed.as_slice())
 }
 
+#[tactic(auto, using(crate::proofs::PutLaw::puts), unfolding(crate::specs::Line::text))]
 pub fn put_line(part: &mut [u8], l: Line) -> usize
-    requires { (l.count ≤ 4) × (length (text l) ≤ length part.old) }
+    requires { length (text l) ≤ length part.old }
     ensures { Puts (text l) part.old part.new result }
 {
-    let first = l.first;
-    let second = l.second;
-    let v = l.values;
-    let a = put_subject(part, l.number);
-    let b = a + put_words(&mut part[a..], first, second);
-    let e = b + put_numbers(&mut part[b..], l.refusal, v, l.count);
-    part[e] = 10;
+    let a = put_subject(part, l.call);
+    let b = a + put_words(&mut part[a..], l.first, l.second);
+    let e = b + put_numbers(&mut part[b..], l.refusal, l.values);
+    part[e] = b'\n';
     e + 1
 }

@@ -1,29 +1,20 @@
 -- What holds in each turn of the loop that draws: the points so far, followed by what the buffer held. Assumes nothing.
+use Rattle.std.specs.Prelude.{Some, None, Result, Ok, Err}
 use mathlib.Core.Path.{◌≡◌, refl, sym, ap, ◌∙◌}
-use mathlib.Core.Bool.{Bool, true, false, cond}
 use mathlib.Core.List.{List, [], ◌∷◌, ◌++◌, append_assoc, append-nil}
 use Prim.Native.Nat.{ℕ, suc, ◌+◌, ◌-◌, ◌*◌, ◌<◌, ◌≤◌}
 use native.Mathlib.Omega.{arith}
 use native.Mathlib.Nat.{sub-zero}
 use borrow.Rule.Slice.PartMut.{put_mid, Post-is}
 use lib.Ieee.{Float}
-use lib.ListN.{length, set, take, drop, length-append, length-drop, take-append-drop}
+use lib.ListN.{length, take, drop, length-append, length-drop, take-append-drop}
 use lib.Seq.{take_all, take_at, drop_at, drop-length, length-take-le}
+use Rattle.guidance.specs.declared.plane.WaypointCall.{WaypointCall}
 use Rattle.laws.specs.declared.types.Vec3.{Vec3}
-use Rattle.path.specs.Model.{step}
-use Rattle.path.specs.Path.{Path, none, stopped_here, onward, path, numbers_of, put, told}
-use Rattle.path.specs.declared.model.WaypointCall.{WaypointCall}
+use Rattle.path.specs.Model.{step, moved, whether_moved}
+use Rattle.path.specs.Path.{Path, none, stopped_here, onward, next, path, numbers_of, put, stop_after, told}
 use Rattle.path.specs.declared.model.Model.{Model}
-use Rattle.path.specs.declared.model.Stepped.{Stepped}
-use Rattle.path.specs.declared.draw.Drawn.{Drawn}
-
--- ---- three numbers at the front of a part
-
-pub three : (xs : List Float) (x y z : Float) → 3 ≤ length xs → set (set (set xs 0 x) 1 y) 2 z ≡ (x ∷ y ∷ z ∷ []) ++ drop 3 xs
-three (a ∷ b ∷ c ∷ xs) x y z h = refl
-three [] x y z h = let no : ⊥ = omega arith in elim no [ ]
-three (a ∷ []) x y z h = let no : ⊥ = omega arith in elim no [ ]
-three (a ∷ b ∷ []) x y z h = let no : ⊥ = omega arith in elim no [ ]
+use Rattle.path.specs.declared.model.Stop.{Stop}
 
 -- the rest of a buffer, as a part of it is lent
 rest_is : (s : List Float) (at : ℕ) → take (length s - at) (drop at s) ≡ drop at s
@@ -35,17 +26,22 @@ rest_back out p at h = rw (Post-is at (length out) out h, drop-length out, appen
 
 -- ---- the path from a model, by its next step
 
-next_is : (n : ℕ) (k : WaypointCall) (m : Model) →
-    path (suc n) k m ≡ cond (step k m).moved (onward (step k m).model.state.position_m (path n k (step k m).model)) (stopped_here (step k m).reason)
+pub moves : (n : ℕ) (k : WaypointCall) (m after : Model) → Ok after ≡ step k m → path (suc n) k m ≡ onward after.state.position_m (path n k after)
 unfolding path
-next_is n k m = refl
+moves n k m after e = rw (sym e)
 
-pub moves : (n : ℕ) (k : WaypointCall) (m : Model) (s : Stepped) → s ≡ step k m → s.moved ≡ true
-    → path (suc n) k m ≡ onward s.model.state.position_m (path n k s.model)
-moves n k m s e h = next_is n k m ∙ rw (← e, h)
+pub stops : (n : ℕ) (k : WaypointCall) (m : Model) (why : Stop) → Err why ≡ step k m → path (suc n) k m ≡ stopped_here why
+unfolding path
+stops n k m why e = rw (sym e)
 
-pub stops : (n : ℕ) (k : WaypointCall) (m : Model) (s : Stepped) → s ≡ step k m → s.moved ≡ false → path (suc n) k m ≡ stopped_here s.reason
-stops n k m s e h = next_is n k m ∙ rw (← e, h)
+-- what a step gave, by what it did in place
+stopped_step : (r : Result Model Stop) (why : Stop) → Err why ≡ whether_moved r → Err why ≡ r
+stopped_step (Ok next) why e = cc
+stopped_step (Err w) why e = cc
+
+moved_step : (m after : Model) (r : Result Model Stop) → after ≡ moved m r → Ok tt ≡ whether_moved r → Ok after ≡ r
+moved_step m after (Ok next) is ok = ap Ok is
+moved_step m after (Err why) is ok = cc
 
 path_none : (k : WaypointCall) (m : Model) → path 0 k m ≡ none
 unfolding path
@@ -61,86 +57,67 @@ put_next p ps out = refl
 
 -- ---- the loop
 
--- the answer by its parts
-abbrev pub drawn_is : ℕ → ℕ → Bool → Drawn
-drawn_is reason n whole = record { refusal = 0; reason = reason; drawn = n; stopped = cond whole 0 (n + 1) }
-
 -- what is left to do, m being the model after n steps
 pub record Drawing (k : WaypointCall) (steps : ℕ) (out₀ : List Float) (m₀ : Model) (out : List Float) (m : Model) (n : ℕ) : Type 0 where
-  pub below : n ≤ steps
-  pub few : steps ≤ 600
   pub long : length out ≡ length out₀
-  pub room : 3 * steps ≤ length out₀
   pub numbers : take (3 * n) out ++ put (path (steps - n) k m).points (drop (3 * n) out) ≡ put (path steps k m₀).points out₀
   pub count : n + length (path (steps - n) k m).points ≡ length (path steps k m₀).points
-  pub whole : (path (steps - n) k m).whole ≡ (path steps k m₀).whole
-  pub reason : (path (steps - n) k m).reason ≡ (path steps k m₀).reason
+  pub stopped : (path (steps - n) k m).stopped ≡ (path steps k m₀).stopped
 
-pub starts : (k : WaypointCall) (steps : ℕ) (out : List Float) (m : Model) → steps ≤ 600 → 3 * steps ≤ length out → Drawing k steps out m out m 0
-starts k steps out m few room = record {
-  below = omega arith;
-  few = few;
+pub starts : (k : WaypointCall) (steps : ℕ) (out : List Float) (m : Model) → Drawing k steps out m out m 0
+starts k steps out m = record {
   long = refl;
-  room = room;
   numbers = rw (sub-zero steps);
   count = rw (sub-zero steps) (omega arith);
-  whole = rw (sub-zero steps);
-  reason = rw (sub-zero steps);
+  stopped = rw (sub-zero steps);
 }
 
 module _ {k : WaypointCall} {steps : ℕ} {out₀ : List Float} {m₀ : Model} {out : List Float} {m : Model} {n : ℕ} (d : Drawing k steps out₀ m₀ out m n) where
   no_more : n + 0 ≡ n
   no_more = omega arith
 
-  -- where the path ends: nothing more is put
+  -- where the path ends, nothing more is put
   ended : (p : Path) → path (steps - n) k m ≡ p → p.points ≡ [] →
-      (out ≡ put (path steps k m₀).points out₀) × (n ≡ length (path steps k m₀).points)
-  ended p e z = (
-    sym (ap (λ (ps : List Vec3). take (3 * n) out ++ put ps (drop (3 * n) out)) (ap (λ (q : Path). q.points) e ∙ z)
-        ∙ rw (put_none (drop (3 * n) out)) (take-append-drop (3 * n) out)) ∙ d.numbers,
-    sym (ap (λ (ps : List Vec3). n + length ps) (ap (λ (q : Path). q.points) e ∙ z) ∙ no_more) ∙ d.count,
-  )
+      (record { drawn = n; stopped = stop_after n p.stopped } ≡ told (path steps k m₀)) × (out ≡ put (path steps k m₀).points out₀)
+  ended p e z =
+      let all : n ≡ length (path steps k m₀).points =
+      sym (ap (λ (ps : List Vec3). n + length ps) (ap (λ (q : Path). q.points) e ∙ z) ∙ no_more) ∙ d.count in
+      let why : p.stopped ≡ (path steps k m₀).stopped = ap (λ (q : Path). q.stopped) (sym e) ∙ d.stopped in (
+        rw (why, all),
+        sym (ap (λ (ps : List Vec3). take (3 * n) out ++ put ps (drop (3 * n) out)) (ap (λ (q : Path). q.points) e ∙ z)
+            ∙ rw (put_none (drop (3 * n) out)) (take-append-drop (3 * n) out)) ∙ d.numbers,
+      )
 
-  told_is : (p : Path) → path (steps - n) k m ≡ p → p.points ≡ [] →
-      drawn_is p.reason n p.whole ≡ told (path steps k m₀)
-  told_is p e z =
-      let why : p.reason ≡ (path steps k m₀).reason = ap (λ (q : Path). q.reason) (sym e) ∙ d.reason in
-      let all : p.whole ≡ (path steps k m₀).whole = ap (λ (q : Path). q.whole) (sym e) ∙ d.whole in
-      rw (why, all, (ended p e z).1)
-
-  pub done : steps ≤ n → (drawn_is 0 n true ≡ told (path steps k m₀)) × (out ≡ put (path steps k m₀).points out₀)
+  pub done : n ≡ steps → (record { drawn = steps; stopped = None } ≡ told (path steps k m₀)) × (out ≡ put (path steps k m₀).points out₀)
   done h =
       let z : steps - n ≡ 0 = omega arith in
-      let e : path (steps - n) k m ≡ none = rw z (path_none k m) in
-      (told_is none e refl, (ended none e refl).0)
+      let p = ended none (rw z (path_none k m)) refl in
+      (ap (λ (x : ℕ). record { drawn = x; stopped = None }) (sym h) ∙ p.0, p.1)
 
-  module _ (s : Stepped) (is : s ≡ step k m) (more : n < steps) where
+  module _ (more : n < steps) where
     left : steps - n ≡ suc (steps - (n + 1))
     left = omega arith
 
-    pub halt : s.moved ≡ false → (drawn_is s.reason n false ≡ told (path steps k m₀)) × (out ≡ put (path steps k m₀).points out₀)
-    halt h =
-        let e : path (steps - n) k m ≡ stopped_here s.reason = rw left (stops (steps - (n + 1)) k m s is h) in
-        (told_is (stopped_here s.reason) e refl, (ended (stopped_here s.reason) e refl).0)
+    pub halt : (why : Stop) → Err why ≡ whether_moved (step k m) →
+        (record { drawn = n; stopped = Some (record { step = n + 1; why = why }) } ≡ told (path steps k m₀))
+        × (out ≡ put (path steps k m₀).points out₀)
+    halt why e = ended (stopped_here why) (rw left (stops (steps - (n + 1)) k m why (stopped_step (step k m) why e))) refl
 
-    pub here : 3 * n ≤ length out
-    here = omega (arith, d.long, d.room)
-
-    pub has_room : 3 ≤ length (take (length out - 3 * n) (drop (3 * n) out))
-    has_room = rw (rest_is out (3 * n)) (simp length-drop (omega (arith, d.long, d.room)))
-
-    module _ (h : s.moved ≡ true) where
+    module _ (room : 3 * steps ≤ length out₀) (after : Model) (is : after ≡ moved m (step k m)) (ok : Ok tt ≡ whether_moved (step k m)) where
       abbrev point : Vec3
-      point = s.model.state.position_m
+      point = after.state.position_m
 
       abbrev rest : Path
-      rest = path (steps - (n + 1)) k s.model
+      rest = path (steps - (n + 1)) k after
 
       onward_is : path (steps - n) k m ≡ onward point rest
-      onward_is = rw left (moves (steps - (n + 1)) k m s is h)
+      onward_is = rw left (moves (steps - (n + 1)) k m after (moved_step m after (step k m) is ok))
 
       abbrev front : List Float
       front = take (3 * n) out ++ numbers_of point
+
+      here : 3 * n ≤ length out
+      here = omega (arith, d.long, room)
 
       front_long : length front ≡ 3 * (n + 1)
       front_long = rw (length-append (take (3 * n) out) (numbers_of point), length-take-le (3 * n) out here) (omega arith)
@@ -149,16 +126,13 @@ module _ {k : WaypointCall} {steps : ℕ} {out₀ : List Float} {m₀ : Model} {
       one_more = omega arith
 
       -- the buffer after the turn: the point stands where the rest of the buffer began
-      onto : (next : List Float) → next ≡ take (3 * n) out ++ (numbers_of point ++ drop 3 (drop (3 * n) out)) →
-          Drawing k steps out₀ m₀ next s.model (n + 1)
-      onto next e =
+      onto : (out₁ : List Float) → out₁ ≡ take (3 * n) out ++ (numbers_of point ++ drop 3 (drop (3 * n) out)) →
+          Drawing k steps out₀ m₀ out₁ after (n + 1)
+      onto out₁ e₁ =
           let behind : List Float = drop 3 (drop (3 * n) out) in
-          let as_front : next ≡ front ++ behind = e ∙ sym (append_assoc (take (3 * n) out) (numbers_of point) behind) in
+          let as_front : out₁ ≡ front ++ behind = e₁ ∙ sym (append_assoc (take (3 * n) out) (numbers_of point) behind) in
           record {
-            below = omega arith;
-            few = d.few;
-            long = rw (as_front, length-append front behind, front_long, length-drop 3 (drop (3 * n) out), length-drop (3 * n) out) (omega (arith, d.long, d.room));
-            room = d.room;
+            long = rw (as_front, length-append front behind, front_long, length-drop 3 (drop (3 * n) out), length-drop (3 * n) out) (omega (arith, d.long, room));
             numbers =
                 rw (as_front, take_at front behind (3 * (n + 1)) front_long, drop_at front behind (3 * (n + 1)) front_long)
                 (append_assoc (take (3 * n) out) (numbers_of point) (put rest.points behind)
@@ -166,10 +140,9 @@ module _ {k : WaypointCall} {steps : ℕ} {out₀ : List Float} {m₀ : Model} {
                 ∙ ap (λ (p : Path). take (3 * n) out ++ put p.points (drop (3 * n) out)) (sym onward_is)
                 ∙ d.numbers);
             count = one_more ∙ ap (λ (p : Path). n + length p.points) (sym onward_is) ∙ d.count;
-            whole = ap (λ (p : Path). p.whole) (sym onward_is) ∙ d.whole;
-            reason = ap (λ (p : Path). p.reason) (sym onward_is) ∙ d.reason;
+            stopped = ap (λ (p : Path). p.stopped) (sym onward_is) ∙ d.stopped;
           }
 
       pub turn : (last : List Float) → last ≡ numbers_of point ++ drop 3 (take (length out - 3 * n) (drop (3 * n) out)) →
-          Drawing k steps out₀ m₀ (put_mid (3 * n) (length out - 3 * n) out last) s.model (n + 1)
+          Drawing k steps out₀ m₀ (put_mid (3 * n) (length out - 3 * n) out last) after (n + 1)
       turn last e = onto _ (rest_back out last (3 * n) here ∙ rw (e, rest_is out (3 * n)))

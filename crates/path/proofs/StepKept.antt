@@ -1,26 +1,25 @@
--- A step keeps the configuration in force and the kept one, so that they need not be put back; and a step that stops keeps the model.
--- Assumes nothing.
-use mathlib.Core.Path.{◌≡◌, refl}
-use mathlib.Core.Bool.{Bool, true, false, cond, ◌&&◌}
-use native.Mathlib.Omega.{arith}
-use Prim.Native.Nat.{ℕ}
+-- A step keeps the configuration in force and the kept one, so that they need not be put back. Assumes nothing.
+use Rattle.std.specs.Prelude.{Option, Result, Ok, Err, Float, IfOk}
+use mathlib.Core.Path.{◌≡◌, refl, ap, subst, sym}
+use mathlib.Core.Bool.{Bool, true, false, cond}
 use lib.Ieee.{Float}
-use Rattle.laws.specs.declared.types.OptionF32.{OptionF32}
+use Rattle.refusals.specs.declared.Refusal.{Refusal}
 use Rattle.laws.specs.declared.types.FlightRegime.{FlightRegime}
 use Rattle.laws.specs.declared.types.Setpoint.{Setpoint}
 use Rattle.laws.specs.declared.types.Setpoint.TheVariants as Set
 use Rattle.laws.specs.declared.types.WaypointCommand.{WaypointCommand}
 use Rattle.laws.specs.declared.types.ControlInput.TheVariants as Input
 use Rattle.laws.specs.declared.types.VehicleState.{VehicleState}
-use Rattle.guidance.specs.Plane.{cleared, bad_time_step, bad_cap, all_finite, commanded, waypoint, obeyed, guided}
+use Rattle.guidance.specs.Plane.{bad_time_step, bad_cap, all_finite, waypoint, obeyed, guided}
 use Rattle.guidance.specs.declared.plane.PlaneGuidance.{PlaneGuidance}
 use Rattle.guidance.specs.declared.plane.Guided.{Guided}
 use Rattle.guidance.specs.declared.plane.Answer.{Answer}
-use Rattle.guidance.specs.declared.plane.Answer.TheVariants.{Refused, Commanded, Waypoint}
+use Rattle.guidance.specs.declared.plane.Answer.TheVariants.{Commanded, Waypoint}
+use Rattle.guidance.specs.declared.plane.WaypointCall.{WaypointCall}
 use Rattle.path.specs.Model as spec
-use Rattle.path.specs.declared.model.WaypointCall.{WaypointCall}
 use Rattle.path.specs.declared.model.Model.{Model}
-use Rattle.path.specs.declared.model.Stepped.{Stepped}
+use Rattle.path.specs.declared.model.Stop.{Stop}
+use Rattle.path.specs.declared.model.Stop.TheVariants.{NotFinite}
 
 -- a guidance but for its configurations, which are another's
 abbrev pub put : PlaneGuidance → PlaneGuidance → PlaneGuidance
@@ -31,43 +30,45 @@ either : (g : PlaneGuidance) (b : Bool) (x y : Guided) → put g x.guidance ≡ 
 either g true x y p q = p
 either g false x y p q = q
 
-obeyed_keeps : (g : PlaneGuidance) (dt : Float) (r : FlightRegime) (w : WaypointCommand) (s : VehicleState) (cap : OptionF32)
+obeyed_keeps : (g : PlaneGuidance) (dt : Float) (r : FlightRegime) (w : WaypointCommand) (s : VehicleState) (cap : Option Float)
     → put g (obeyed g dt r (Input.Waypoint w) s cap).guidance ≡ (obeyed g dt r (Input.Waypoint w) s cap).guidance
-unfolding obeyed commanded cleared waypoint
+unfolding obeyed waypoint
 obeyed_keeps g dt r w s cap = either g (bad_cap cap) _ _ refl (either g (all_finite _) _ _ refl refl)
 
-guided_keeps : (g : PlaneGuidance) (dt : Float) (r : FlightRegime) (w : WaypointCommand) (s : VehicleState) (cap : OptionF32)
+guided_keeps : (g : PlaneGuidance) (dt : Float) (r : FlightRegime) (w : WaypointCommand) (s : VehicleState) (cap : Option Float)
     → put g (guided g dt r (Input.Waypoint w) s cap).guidance ≡ (guided g dt r (Input.Waypoint w) s cap).guidance
 unfolding guided
 guided_keeps g dt r w s cap = either g (bad_time_step dt) _ _ refl (obeyed_keeps g dt r w s cap)
 
 -- ---- what a step gives
 
--- the model keeps its configurations, and where it does not move it is kept whole
-pub record Kept (m : Model) (s : Stepped) : Type 0 where
-  pub settings : put m.guidance s.model.guidance ≡ s.model.guidance
-  pub stays : s.moved ≡ false → s.model ≡ m
+-- if the model moves, it keeps these configurations
+abbrev Kept : PlaneGuidance → Result Model Stop → Type 0
+Kept g r = IfOk r (λ (next : Model). put g next.guidance ≡ next.guidance)
 
-stopped_keeps : (m : Model) (n : ℕ) → Kept m (spec.stopped m n)
-stopped_keeps m n = record { settings = refl; stays = λ _. refl }
-
-settled_keeps : (m : Model) (g : PlaneGuidance) (s : VehicleState) → put m.guidance g ≡ g → Kept m (spec.settled m g s)
+settled_keeps : (g h : PlaneGuidance) (s : VehicleState) → put g h ≡ h → Kept g (spec.settled h s)
 unfolding spec.settled
-settled_keeps m g s k = go (spec.all_finite s.position_m && spec.all_finite s.velocity_mps)
+settled_keeps g h s k = go (spec.finite_plane s)
   where
-    go : (b : Bool) → Kept m (cond b (record { moved = true; reason = 0; model = record { guidance = g; state = s } }) (spec.stopped m 0))
-    go true = record { settings = k; stays = λ e. let z : ◌≡◌ {A = ℕ} 0 1 = cc in absurd (omega arith) }
-    go false = stopped_keeps m 0
+    go : (b : Bool) → Kept g (cond b (Ok (record { guidance = h; state = s })) (Err NotFinite))
+    go true = k
+    go false = tt
 
-by_setpoint_keeps : (m : Model) (dt : Float) (g : PlaneGuidance) (p : Setpoint) → put m.guidance g ≡ g → Kept m (spec.by_setpoint m dt g p)
-by_setpoint_keeps m dt g (Set.Plane roll pitch thrust) k = settled_keeps m g (spec.flown m.state dt roll pitch) k
-by_setpoint_keeps m dt g (Set.PlaneRate roll pitch yaw thrust) k = stopped_keeps m 0
+by_setpoint_keeps : (g : PlaneGuidance) (s : VehicleState) (dt : Float) (h : PlaneGuidance) (p : Setpoint) → put g h ≡ h → Kept g (spec.by_setpoint s dt h p)
+by_setpoint_keeps g s dt h (Set.Plane roll pitch thrust) k = settled_keeps g h (spec.flown s dt roll pitch) k
+by_setpoint_keeps g s dt h (Set.PlaneRate roll pitch yaw thrust) k = tt
 
-by_answer_keeps : (m : Model) (dt : Float) (g : PlaneGuidance) (a : Answer) → put m.guidance g ≡ g → Kept m (spec.by_answer m dt g a)
-by_answer_keeps m dt g (Refused n) k = stopped_keeps m n
-by_answer_keeps m dt g (Commanded p) k = by_setpoint_keeps m dt g p k
-by_answer_keeps m dt g (Waypoint a) k = by_setpoint_keeps m dt g a.setpoint k
+by_answer_keeps : (g : PlaneGuidance) (s : VehicleState) (dt : Float) (h : PlaneGuidance) (a : Result Answer Refusal) → put g h ≡ h → Kept g (spec.by_answer s dt h a)
+by_answer_keeps g s dt h (Err why) k = tt
+by_answer_keeps g s dt h (Ok (Commanded p)) k = by_setpoint_keeps g s dt h p k
+by_answer_keeps g s dt h (Ok (Waypoint a)) k = by_setpoint_keeps g s dt h a.setpoint k
 
-pub step_keeps : (k : WaypointCall) (m : Model) → Kept m (spec.step k m)
+step_keeps : (k : WaypointCall) (m : Model) → Kept m.guidance (spec.step k m)
 unfolding spec.step
-step_keeps k m = by_answer_keeps m k.dt _ _ (guided_keeps m.guidance k.dt k.regime k.command m.state k.cap)
+step_keeps k m = by_answer_keeps m.guidance m.state k.dt _ _ (guided_keeps m.guidance k.dt k.regime k.command m.state k.cap)
+
+-- the rest of a step, put into the model, makes the model after it
+pub moved_in_place : (k : WaypointCall) (m next : Model) → Ok next ≡ spec.step k m
+    → record { guidance = put m.guidance next.guidance; state = next.state } ≡ spec.moved m (spec.step k m)
+moved_in_place k m next e =
+    rw (sym e) (ap (λ (g : PlaneGuidance). record { guidance = g; state = next.state }) (subst (Kept m.guidance) (sym e) (step_keeps k m)))

@@ -1,5 +1,7 @@
 -- Document 02, K4: one step of the simple plane over which the guidance is repeated. Definitions only.
-use Rattle.std.specs.Prelude.{ℕ, Bool, true, false, cond, ◌&&◌, Float}
+use Rattle.std.specs.Prelude.{ℕ, Bool, cond, ◌&&◌, Float, Option, Some, None, Result, Ok, Err, ⊤}
+use Rattle.refusals.specs.Numbers.{number}
+use Rattle.refusals.specs.declared.Refusal.{Refusal}
 use Rattle.std.specs.Float.Ieee as Ieee
 use Rattle.std.specs.Float.Ieee.{neg}
 use Rattle.arithmetic.specs.Constants.{◌+ᶠ◌, ◌-ᶠ◌, ◌·ᶠ◌, ◌/ᶠ◌, n0, n1, frac_pi2}
@@ -7,22 +9,21 @@ use Rattle.arithmetic.specs.Order.{clamp, finite}
 use Rattle.arithmetic.specs.Trigonometry.{sine, cosine}
 use Rattle.arithmetic.specs.Vector.{norm}
 use Rattle.arithmetic.specs.declared.vector.Vec2.{Vec2}
-use Rattle.laws.specs.Types.{gravity}
+use Rattle.laws.specs.Types.{gravity, north_east}
 use Rattle.laws.specs.declared.types.Vec3.{Vec3}
-use Rattle.laws.specs.declared.types.OptionF32.{OptionF32}
-use Rattle.laws.specs.declared.types.OptionF32.TheVariants.{None, Some}
 use Rattle.laws.specs.declared.types.ControlInput.TheVariants as Input
 use Rattle.laws.specs.declared.types.VehicleState.{VehicleState}
 use Rattle.laws.specs.declared.types.Setpoint.{Setpoint}
 use Rattle.laws.specs.declared.types.Setpoint.TheVariants as Set
-use Rattle.guidance.specs.Plane.{guided, north_east}
+use Rattle.guidance.specs.Plane.{guided}
 use Rattle.guidance.specs.declared.plane.PlaneGuidance.{PlaneGuidance}
 use Rattle.guidance.specs.declared.plane.Guided.{Guided}
 use Rattle.guidance.specs.declared.plane.Answer.{Answer}
-use Rattle.guidance.specs.declared.plane.Answer.TheVariants.{Refused, Commanded, Waypoint}
-use Rattle.path.specs.declared.model.WaypointCall.{WaypointCall}
+use Rattle.guidance.specs.declared.plane.Answer.TheVariants.{Commanded, Waypoint}
+use Rattle.guidance.specs.declared.plane.WaypointCall.{WaypointCall}
 use Rattle.path.specs.declared.model.Model.{Model}
-use Rattle.path.specs.declared.model.Stepped.{Stepped}
+use Rattle.path.specs.declared.model.Stop.{Stop}
+use Rattle.path.specs.declared.model.Stop.TheVariants.{Refused, NotFinite}
 
 -- ---- the plane
 
@@ -42,7 +43,7 @@ turned_right v turn = record {
 }
 
 -- airspeed, or the ground speed before the turn if there is none
-abbrev pub speed_or : OptionF32 → Float → Float
+abbrev pub speed_or : Option Float → Float → Float
 speed_or None speed = speed
 speed_or (Some airspeed) speed = airspeed
 
@@ -69,31 +70,43 @@ flown s dt roll pitch =
 unfoldable pub all_finite : Vec3 → Bool
 all_finite v = finite v.x && finite v.y && finite v.z
 
--- the path stops here: the refusal's number, 0 for a number that isn't finite
-abbrev pub stopped : Model → ℕ → Stepped
-stopped m reason = record { moved = false; reason = reason; model = m }
+-- the plane's position and velocity are
+abbrev pub finite_plane : VehicleState → Bool
+finite_plane s = all_finite s.position_m && all_finite s.velocity_mps
 
 -- a position or velocity number that isn't finite stops the path
-unfoldable pub settled : Model → PlaneGuidance → VehicleState → Stepped
-settled m g s =
-    cond (all_finite s.position_m && all_finite s.velocity_mps)
-    (record { moved = true; reason = 0; model = record { guidance = g; state = s } })
-    (stopped m 0)
+unfoldable pub settled : PlaneGuidance → VehicleState → Result Model Stop
+settled g s = cond (finite_plane s) (Ok (record { guidance = g; state = s })) (Err NotFinite)
 
 -- a waypoint answers roll, pitch and thrust; no rates
-abbrev pub by_setpoint : Model → Float → PlaneGuidance → Setpoint → Stepped
-by_setpoint m dt g (Set.Plane roll pitch thrust) = settled m g (flown m.state dt roll pitch)
-by_setpoint m dt g (Set.PlaneRate roll pitch yaw thrust) = stopped m 0
+abbrev pub by_setpoint : VehicleState → Float → PlaneGuidance → Setpoint → Result Model Stop
+by_setpoint s dt g (Set.Plane roll pitch thrust) = settled g (flown s dt roll pitch)
+by_setpoint s dt g (Set.PlaneRate roll pitch yaw thrust) = Err NotFinite
 
--- a refusal stops the path with its number
-abbrev pub by_answer : Model → Float → PlaneGuidance → Answer → Stepped
-by_answer m dt g (Refused n) = stopped m n
-by_answer m dt g (Commanded s) = by_setpoint m dt g s
-by_answer m dt g (Waypoint a) = by_setpoint m dt g a.setpoint
+-- a refusal stops the path
+abbrev pub by_answer : VehicleState → Float → PlaneGuidance → Result Answer Refusal → Result Model Stop
+by_answer s dt g (Err why) = Err (Refused why)
+by_answer s dt g (Ok (Commanded p)) = by_setpoint s dt g p
+by_answer s dt g (Ok (Waypoint a)) = by_setpoint s dt g a.setpoint
 
 -- the guidance's answer to the waypoint at the model's state; "all else in the call stays"
 abbrev pub answer_at : WaypointCall → Model → Guided
 answer_at k m = guided m.guidance k.dt k.regime (Input.Waypoint k.command) m.state k.cap
 
-unfoldable pub step : WaypointCall → Model → Stepped
-step k m = by_answer m k.dt (answer_at k m).guidance (answer_at k m).answer
+-- the model after a step, or why the path stops
+unfoldable pub step : WaypointCall → Model → Result Model Stop
+step k m = by_answer m.state k.dt (answer_at k m).guidance (answer_at k m).answer
+
+-- in place: a step that stops leaves the model as it was
+abbrev pub moved : Model → Result Model Stop → Model
+moved m (Ok next) = next
+moved m (Err why) = m
+
+abbrev pub whether_moved : Result Model Stop → Result ⊤ Stop
+whether_moved (Ok next) = Ok tt
+whether_moved (Err why) = Err why
+
+-- the refusal's number, and 0 for a number that isn't finite
+abbrev pub stop_number : Stop → ℕ
+stop_number (Refused why) = number why
+stop_number NotFinite = 0

@@ -1,36 +1,43 @@
 -- Document 02, K4: the points of the written-out model, step by step, the answer and the lent buffer. Definitions only.
-use Rattle.std.specs.Prelude.{ℕ, zero, suc, ◌+◌, ◌*◌, Bool, true, false, cond, ◌||◌, List, [], ◌∷◌, ◌++◌, eqb, ltb, Float, length, drop}
+use Rattle.std.specs.Prelude.{ℕ, zero, suc, ◌+◌, ◌*◌, Bool, cond, ◌||◌, List, [], ◌∷◌, ◌++◌, eqb, ltb, Float, Option, Some, None, Result, Ok, Err, length, drop}
+use Rattle.refusals.specs.Numbers.{number}
+use Rattle.refusals.specs.declared.Refusal.{Refusal}
+use Rattle.refusals.specs.declared.Refusal.TheVariants as refusal
 use Rattle.laws.specs.declared.types.Vec3.{Vec3}
 use Rattle.guidance.specs.declared.plane.PlaneGuidance.{PlaneGuidance}
-use Rattle.path.specs.Model.{step}
-use Rattle.path.specs.declared.model.WaypointCall.{WaypointCall}
+use Rattle.guidance.specs.declared.plane.WaypointCall.{WaypointCall}
+use Rattle.path.specs.Model.{step, stop_number}
 use Rattle.path.specs.declared.model.Model.{Model}
+use Rattle.path.specs.declared.model.Stop.{Stop}
 use Rattle.path.specs.declared.draw.Drawn.{Drawn}
+use Rattle.path.specs.declared.draw.Stopped.{Stopped}
 
 -- ---- the path
 
--- the points that are drawn; whether each step was; if not, why the next one stopped
+-- the points that are drawn; if not each step was, why the next one stopped
 pub record Path : Type 0 where
   pub points : List Vec3
-  pub whole : Bool
-  pub reason : ℕ
+  pub stopped : Option Stop
 
 abbrev pub none : Path
-none = record { points = []; whole = true; reason = 0 }
+none = record { points = []; stopped = None }
 
 -- nothing is drawn for the step that stops
-abbrev pub stopped_here : ℕ → Path
-stopped_here reason = record { points = []; whole = false; reason = reason }
+abbrev pub stopped_here : Stop → Path
+stopped_here why = record { points = []; stopped = Some why }
 
 abbrev pub onward : Vec3 → Path → Path
-onward p rest = record { points = p ∷ rest.points; whole = rest.whole; reason = rest.reason }
+onward p rest = record { points = p ∷ rest.points; stopped = rest.stopped }
+
+-- by what the next step gives, and the path from each model
+abbrev pub next : Result Model Stop → (Model → Path) → Path
+next (Ok m) rest = onward m.state.position_m (rest m)
+next (Err why) rest = stopped_here why
 
 -- n steps from a model: the path stops at the first refusal, or position or velocity number that isn't finite
 unfoldable pub path : ℕ → WaypointCall → Model → Path
 path zero k m = none
-path (suc n) k m =
-    let s = step k m in
-    cond s.moved (onward s.model.state.position_m (path n k s.model)) (stopped_here s.reason)
+path (suc n) k m = next (step k m) (path n k)
 
 -- the model starts from the guidance and the call's own sensors
 abbrev pub start : PlaneGuidance → WaypointCall → Model
@@ -57,22 +64,38 @@ bad_steps n = eqb n 0 || ltb 600 n
 abbrev pub too_short : ℕ → ℕ → Bool
 too_short room n = ltb room (3 * n)
 
-abbrev pub refused_with : ℕ → Drawn
-refused_with n = record { refusal = n; reason = 0; drawn = 0; stopped = 0 }
-
 -- the step that stopped is counted from 1
+abbrev pub stop_after : ℕ → Option Stop → Option Stopped
+stop_after n None = None
+stop_after n (Some why) = Some (record { step = n + 1; why = why })
+
 abbrev pub told : Path → Drawn
-told p = record {
-  refusal = 0;
-  reason = p.reason;
-  drawn = length p.points;
-  stopped = cond p.whole 0 (length p.points + 1);
-}
+told p = record { drawn = length p.points; stopped = stop_after (length p.points) p.stopped }
 
 -- the answer, by how many numbers the buffer has
-unfoldable pub answer : PlaneGuidance → WaypointCall → ℕ → ℕ → Drawn
-answer g k n room = cond (bad_steps n) (refused_with 12) (cond (too_short room n) (refused_with 8) (told (path n k (start g k))))
+unfoldable pub answer : PlaneGuidance → WaypointCall → ℕ → ℕ → Result Drawn Refusal
+answer g k n room =
+    cond (bad_steps n) (Err refusal.StepCount)
+    (cond (too_short room n) (Err refusal.TooLittleRoom)
+    (Ok (told (path n k (start g k)))))
 
 -- the buffer afterwards; 12 and 8 keep every number of it
 unfoldable pub buffer : PlaneGuidance → WaypointCall → ℕ → List Float → List Float
 buffer g k n out = cond (bad_steps n) out (cond (too_short (length out) n) out (put (path n k (start g k)).points out))
+
+-- ---- document 02's numbers of an answer
+
+-- 0, 12 or 8
+abbrev pub refusal_number : Result Drawn Refusal → ℕ
+refusal_number (Ok d) = 0
+refusal_number (Err why) = number why
+
+-- 0, or the step at which the path stopped
+abbrev pub step_number : Option Stopped → ℕ
+step_number None = 0
+step_number (Some s) = s.step
+
+-- that step's refusal, 0 for a number that isn't finite
+abbrev pub reason_number : Option Stopped → ℕ
+reason_number None = 0
+reason_number (Some s) = stop_number s.why

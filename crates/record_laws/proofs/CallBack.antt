@@ -1,38 +1,38 @@
 -- The laws of the call record. Assumes nothing.
+use Rattle.std.specs.Prelude.{Option, Some, None, Float}
 use mathlib.Core.Path.{◌≡◌, refl, sym, ap, subst, ◌∙◌}
-use mathlib.Core.Bool.{Bool, true, false, cond, not, ◌&&◌}
+use mathlib.Core.Bool.{Bool, true, false, cond, not}
 use mathlib.Core.List.{List, [], ◌∷◌, ◌++◌, append_assoc}
 use Prim.Native.Nat.{ℕ, zero, suc, ◌+◌, ◌-◌, ◌*◌, ◌/◌, ◌%◌, ◌<◌, ◌≤◌, ◌^◌}
 use native.Mathlib.Omega.{arith}
 use native.Mathlib.Nat.{pow-suc, mul_comm, div-div-eq-div-mul}
-use borrow.Author.Tests.{le-leb, le-ltb, lt-ltb, eq-eqb, eqb-true}
+use borrow.Author.Tests.{le-leb, le-ltb, lt-ltb, eq-eqb}
 use lib.Dec.{T, eqb, lit<}
 use lib.Pow.{pow-add}
 use lib.ListN.{length, drop, get_or, replicate, get_or-replicate, length-append, length-drop}
 use lib.Seq.{drop-drop}
 use lib.Ieee.{Float, nan, binary32, fits, of_bits, to_bits}
 use lib.Ieee.Bits.{of_bits-fits}
-use Rattle.laws.specs.declared.types.OptionF32.{OptionF32}
-use Rattle.laws.specs.declared.types.OptionF32.TheVariants as number
-use Rattle.laws.specs.declared.types.OptionVec2.{OptionVec2}
-use Rattle.laws.specs.declared.types.OptionVec2.TheVariants as leg
 use Rattle.laws.specs.declared.types.WaypointCommand.{WaypointCommand}
 use Rattle.laws.specs.declared.types.VehicleState.{VehicleState}
 use Rattle.laws.specs.declared.types.FlightRegime.{FlightRegime}
 use Rattle.laws.specs.declared.types.FlightRegime.TheVariants.{Copter, Plane}
 use Rattle.fields.specs.Bytes.{number_at, bytes_of, has_bytes}
-use Rattle.fields.specs.Fields.{stands, named, size_of, values_at, is_written, bit_of, map_of, body_of, number_fields, Held}
+use Rattle.fields.specs.Fields.{stands, size_of, values_at, is_written, bit_of, body_of, number_fields, Held}
 use Rattle.fields.specs.Numbers.{floats_of, bits_of, AreF32}
-use Rattle.fields.proofs.NumberLaw.{bytes_long, number_back, drop_bytes}
-use Rattle.fields.proofs.MapLaw.{bits_length, floats_length}
-use Rattle.fields.proofs.FieldLaw.{ones_le, values_long, body_long}
-use Rattle.fields.proofs.RecordLaw.{map_small, map_bit, field_at, fields_back, Within, size_within, halved, value_missing, floats_back, floats_are, bits_held, get_d_mapped}
+use Rattle.fields.proofs.NumberLaw.{number_back, drop_bytes}
+use Rattle.fields.proofs.MapLaw.{floats_length}
+use Rattle.fields.proofs.FieldLaw.{ones_le, values_long}
+use Rattle.fields.proofs.RecordLaw.{map_bit, field_at, fields_back, Within, size_within, halved, value_missing, floats_back, floats_are, bits_held, get_d_mapped}
 use Rattle.fields.proofs.LawsProof.{laws}
-use Rattle.records.specs.declared.call.ByteRead.{ByteRead}
 use Rattle.records.specs.declared.call.Call.{Call}
 use Rattle.records.specs.declared.call.Call.TheVariants.{Prime, Attitude, Rate, Waypoint, AbsoluteAttitude, Land, AbsoluteRate}
 use Rattle.records.specs.declared.call_writer.Parts.{Parts}
-use Rattle.records.specs.declared.call.ReadCall.TheVariants.{Read, Refused}
+use Rattle.std.specs.Prelude.{Err}
+use Rattle.arithmetic.specs.declared.vector.Vec2.{Vec2}
+use Rattle.records.specs.declared.call.ReadCall.{ReadCall}
+use Rattle.std.specs.Bool.{then_some}
+use Rattle.refusals.specs.declared.Refusal.TheVariants as refusal
 use Rattle.records.specs.Call.{
   call_fields,
   complete,
@@ -62,9 +62,9 @@ use Rattle.records.specs.Call.{
   call_record,
 }
 use Rattle.records.specs.Call as spec
-use Rattle.records.specs.Code.Steps.{byte_at}
-use Rattle.record_laws.specs.Laws.{CallF32, CallLaws, CallLongest}
-use Rattle.records.proofs.CallLaw.{fields_long, fields_are, size_is, Numbers, parts_long, regime_le, values_byte, byte_missing}
+use Rattle.records.specs.Code.Steps.{regime_at}
+use Rattle.record_laws.specs.Laws.{CallF32, call_read, CallLaws, CallLongest}
+use Rattle.records.proofs.CallLaw.{fields_long, fields_are, size_is, Numbers, parts_long, regime_le, values_are, complete_gives, Flags, Values, Map, flags_long, call_values_long, map_by_fields, map_below, call_is, call_long}
 
 -- ---- the parts of a call
 
@@ -78,58 +78,27 @@ kind_le (AbsoluteAttitude r dt c) = omega arith
 kind_le (Land r dt) = omega arith
 kind_le (AbsoluteRate r dt c) = omega arith
 
-keeps_long : (c : Call) → length (parts_of c).keeps ≡ 20
-unfolding parts_of command_parts waypoint_parts
-keeps_long Prime = refl
-keeps_long (Attitude r dt c) = refl
-keeps_long (Rate r dt c) = refl
-keeps_long (Waypoint r dt c s cap) = refl
-keeps_long (AbsoluteAttitude r dt c) = refl
-keeps_long (Land r dt) = refl
-keeps_long (AbsoluteRate r dt c) = refl
-
--- the flags and the values of a call's fields
-abbrev Flags : Call → List ℕ
-Flags c = 1 ∷ 0 ∷ (parts_of c).keeps
-
-flags_long : (c : Call) → length (Flags c) ≡ length call_fields
-flags_long c = rw (keeps_long c, fields_long)
-
-values_length : (c : Call) → length (values_of (parts_of c)) ≡ length call_fields
-unfolding values_of
-values_length c = rw (bits_length (parts_of c).numbers, parts_long c, fields_long)
-
-abbrev Map : Call → ℕ
-Map c = map_of_parts (parts_of c)
-
-map_is : (c : Call) → Map c ≡ map_of call_fields (Flags c) (values_of (parts_of c))
-unfolding map_of_parts
-map_is c = refl
-
-map_below : (c : Call) → Map c < 2 ^ 22
-map_below c = rw (map_is c) (rw fields_long at (map_small call_fields (Flags c) (values_of (parts_of c))))
-
-pub values_held : (c : Call) → CallF32 c → Held call_fields (values_of (parts_of c))
+pub values_held : (c : Call) → CallF32 c → Held call_fields (Values c)
 unfolding Held values_of
 values_held c f = rw fields_are (omega (arith, kind_le c), (omega (arith, regime_le c), bits_held (replicate 20 0) (parts_of c).numbers (parts_long c) f))
 
 -- ---- the map of a call is complete
 
 -- +0 is left out, unless it must be written
-zero_out : is_written 0 (to_bits binary32 spec.zero) 0 ≡ false
+zero_out : is_written false (to_bits binary32 spec.zero) 0 ≡ false
 unfolding to_bits of_bits
 zero_out = refl
 
 -- bit n of the map of a call
-bit_is : (c : Call) (n : ℕ) → n < 22 → Map c / 2 ^ n % 2 ≡ bit_of (is_written (get_or (Flags c) n 0) (get_or (values_of (parts_of c)) n 0) (field_at call_fields n).missing)
-bit_is c n h = rw (map_is c) (map_bit n call_fields (Flags c) (values_of (parts_of c)) (rw fields_long h) (flags_long c) (values_length c))
+bit_is : (c : Call) (n : ℕ) → n < 22 → Map c / 2 ^ n % 2 ≡ bit_of (is_written (get_or (Flags c) n false) (get_or (Values c) n 0) (field_at call_fields n).missing)
+bit_is c n h = rw (map_by_fields c) (map_bit n call_fields (Flags c) (Values c) (rw fields_long h) (flags_long c) (call_values_long c))
 
 -- a leg's two parts are written or left out together
-leg_alike : (l : OptionVec2) → is_written (has_leg l) (to_bits binary32 (leg_north l)) 0 ≡ is_written (has_leg l) (to_bits binary32 (leg_east l)) 0
-leg_alike leg.None = refl
-leg_alike (leg.Some l) = refl
+leg_alike : (l : Option Vec2) → is_written (has_leg l) (to_bits binary32 (leg_north l)) 0 ≡ is_written (has_leg l) (to_bits binary32 (leg_east l)) 0
+leg_alike None = refl
+leg_alike (Some l) = refl
 
-alike : (c : Call) → is_written (get_or (Flags c) 9 0) (get_or (values_of (parts_of c)) 9 0) 0 ≡ is_written (get_or (Flags c) 10 0) (get_or (values_of (parts_of c)) 10 0) 0
+alike : (c : Call) → is_written (get_or (Flags c) 9 false) (get_or (Values c) 9 0) 0 ≡ is_written (get_or (Flags c) 10 false) (get_or (Values c) 10 0) 0
 unfolding values_of bits_of parts_of command_parts waypoint_parts
 alike Prime = refl
 alike (Attitude r dt c) = refl
@@ -178,18 +147,18 @@ plane_is : regime_of 1 ≡ Plane
 unfolding regime_of
 plane_is = refl
 
-leg_back : (l : OptionVec2) (m : ℕ) → m % 2 ≡ bit_of (is_written (has_leg l) (to_bits binary32 (leg_north l)) 0) → leg_of m (leg_north l) (leg_east l) ≡ l
+leg_back : (l : Option Vec2) (m : ℕ) → m % 2 ≡ bit_of (is_written (has_leg l) (to_bits binary32 (leg_north l)) 0) → leg_of m (leg_north l) (leg_east l) ≡ l
 unfolding leg_of
-leg_back leg.None m e = rw (e, zero_out)
-leg_back (leg.Some l) m e = rw e
+leg_back None m e = rw (e, zero_out)
+leg_back (Some l) m e = rw e
 
-option_back : (x : OptionF32) (m : ℕ) → m % 2 ≡ bit_of (is_written (has_number x) (to_bits binary32 (number_or0 x)) 0) → option_of m (number_or0 x) ≡ x
+option_back : (x : Option Float) (m : ℕ) → m % 2 ≡ bit_of (is_written (has_number x) (to_bits binary32 (number_or0 x)) 0) → option_of m (number_or0 x) ≡ x
 unfolding option_of
-option_back number.None m e = rw (e, zero_out)
-option_back (number.Some x) m e = rw e
+option_back None m e = rw (e, zero_out)
+option_back (Some x) m e = rw e
 
 -- the bits of a waypoint's leg, airspeed and cap
-module _ (r : FlightRegime) (dt : Float) (c : WaypointCommand) (s : VehicleState) (cap : OptionF32) where
+module _ (r : FlightRegime) (dt : Float) (c : WaypointCommand) (s : VehicleState) (cap : Option Float) where
   abbrev W : Call
   W = Waypoint r dt c s cap
 
@@ -228,35 +197,29 @@ call_back (AbsoluteRate r dt c) m e = rw (regime_back r)
 -- ---- where a record stands
 
 abbrev Body : Call → List ℕ
-Body c = body_of call_fields (Map c) (values_of (parts_of c))
-
-record_is : (c : Call) → call_record c ≡ bytes_of 4 (Map c) ++ Body c
-unfolding call_record
-record_is c = refl
+Body c = body_of call_fields (Map c) (Values c)
 
 pub long : (c : Call) → length (call_record c) ≡ 4 + size_of call_fields (Map c)
-long c =
-    let size : length (Body c) ≡ size_of call_fields (Map c) = body_long call_fields (values_of (parts_of c)) (Map c) (values_length c) in
-    rw (record_is c) (length-append (bytes_of 4 (Map c)) (Body c) ∙ omega (arith, bytes_long 4 (Map c), size))
+long = call_long
 
-values_back : (c : Call) (rest : List ℕ) → CallF32 c → values_at call_fields (Map c) (Body c ++ rest) ≡ values_of (parts_of c)
-values_back c rest f = rw (map_is c) (fields_back call_fields (Flags c) (values_of (parts_of c)) rest (flags_long c) (values_held c f))
+values_back : (c : Call) (rest : List ℕ) → CallF32 c → values_at call_fields (Map c) (Body c ++ rest) ≡ Values c
+values_back c rest f = rw (map_by_fields c) (fields_back call_fields (Flags c) (Values c) rest (flags_long c) (values_held c f))
 
-values_are : (p : Parts) → values_of p ≡ p.kind ∷ p.regime ∷ bits_of p.numbers
+values_split : (p : Parts) → values_of p ≡ p.kind ∷ p.regime ∷ bits_of p.numbers
 unfolding values_of
-values_are p = refl
+values_split p = refl
 
 known : (c : Call) → unknown (parts_of c).kind (parts_of c).regime ≡ false
 unfolding unknown
 known c = rw (le-ltb 6 (parts_of c).kind (kind_le c), le-ltb 1 (parts_of c).regime (regime_le c))
 
 pub stands_at : (s : List ℕ) (at : ℕ) (c : Call) (rest : List ℕ) → at ≤ length s → drop at s ≡ call_record c ++ rest → CallF32 c
-    → read_call s at ≡ Read c (at + length (call_record c))
+    → read_call s at ≡ call_read c (at + length (call_record c))
 unfolding read_call
 stands_at s at c rest h e f =
     let m = Map c in
     let below : m < 256 ^ 4 = omega (arith, map_below c) in
-    let whole : drop at s ≡ bytes_of 4 m ++ (Body c ++ rest) = e ∙ rw (record_is c) (append_assoc (bytes_of 4 m) (Body c) rest) in
+    let whole : drop at s ≡ bytes_of 4 m ++ (Body c ++ rest) = e ∙ rw (call_is c) (append_assoc (bytes_of 4 m) (Body c) rest) in
     let map_at : number_at 4 (drop at s) ≡ m = rw whole (number_back 4 m (Body c ++ rest) below) in
     let after : drop (at + 4) s ≡ Body c ++ rest = sym (drop-drop 4 at s) ∙ rw whole (drop_bytes 4 m (Body c ++ rest)) in
     let size : length s - at ≡ length (call_record c) + length rest = sym (length-drop at s) ∙ ap length e ∙ length-append (call_record c) rest in
@@ -269,7 +232,7 @@ stands_at s at c rest h e f =
       le-leb (at + length (call_record c)) (length s) room,
       after,
       values_back c rest f,
-      values_are (parts_of c),
+      values_split (parts_of c),
       known c,
       floats_back (parts_of c).numbers f,
       call_back c m refl,
@@ -277,15 +240,21 @@ stands_at s at c rest h e f =
 
 -- ---- what was read
 
+-- an answer that gives a call has one call and one place
+pub same_read : (v w : Call) (a b : ℕ) → call_read v a ≡ call_read w b → (v ≡ w) × (a ≡ b)
+same_read v w a b e =
+    let r : ◌≡◌ {A = ReadCall} (record { call = v; next = a }) (record { call = w; next = b }) = cc in
+    (ap (λ (x : ReadCall). x.call) r, ap (λ (x : ReadCall). x.next) r)
+
 -- a reader's answer that is no refusal
 inverted : (a b d u : Bool) (v c : Call) (n next : ℕ)
-    → cond (not a) (Refused 5) (cond (not b) (Refused 6) (cond (not d) (Refused 5) (cond u (Refused 7) (Read v n)))) ≡ Read c next
+    → cond (not a) (Err refusal.TooFewBytes) (cond (not b) (Err refusal.UnknownMap) (cond (not d) (Err refusal.TooFewBytes) (cond u (Err refusal.UnknownKind) (call_read v n)))) ≡ call_read c next
     → (b ≡ true) × (v ≡ c) × (n ≡ next)
-inverted true true true false v c n next e = (refl, cc, cc)
-inverted true true true true v c n next e = let z : ◌≡◌ {A = ℕ} 0 1 = cc in absurd (omega arith)
-inverted true true false u v c n next e = let z : ◌≡◌ {A = ℕ} 0 1 = cc in absurd (omega arith)
-inverted true false d u v c n next e = let z : ◌≡◌ {A = ℕ} 0 1 = cc in absurd (omega arith)
-inverted false b d u v c n next e = let z : ◌≡◌ {A = ℕ} 0 1 = cc in absurd (omega arith)
+inverted true true true false v c n next e = let r = same_read v c n next e in (refl, r.0, r.1)
+inverted true true true true v c n next e = absurd cc
+inverted true true false u v c n next e = absurd cc
+inverted true false d u v c n next e = absurd cc
+inverted false b d u v c n next e = absurd cc
 
 -- what holds of the call of each kind
 of_each : (P : Call → Type 0) (kind : ℕ) (r : FlightRegime) (m : ℕ) (v : List Float)
@@ -325,7 +294,7 @@ option_fits : (m : ℕ) (x : Float) → T (fits binary32 x) → T (fits binary32
 unfolding option_of
 option_fits m x h = go (stands m)
   where
-    go : (b : Bool) → T (fits binary32 (number_or0 (cond b (number.Some x) number.None)))
+    go : (b : Bool) → T (fits binary32 (number_or0 (then_some b x)))
     go true = h
     go false = zero_fits
 
@@ -334,8 +303,8 @@ unfolding leg_of
 legs_fit m x y h k = go (stands m)
   where
     go : (b : Bool)
-        → T (fits binary32 (leg_north (cond b (leg.Some (record { x = x; y = y })) leg.None)))
-        × T (fits binary32 (leg_east (cond b (leg.Some (record { x = x; y = y })) leg.None)))
+        → T (fits binary32 (leg_north (then_some b (record { x = x; y = y }))))
+        × T (fits binary32 (leg_east (then_some b (record { x = x; y = y }))))
     go true = (h, k)
     go false = (zero_fits, zero_fits)
 
@@ -466,7 +435,7 @@ module _ (m : ℕ) (v : List Float) (h : AreF32 v) (l : length v ≡ 20) where
 -- ---- a call that was read is written with no more fields than it had
 
 -- +0 that need not be written is not
-left : {b : Bool} → b ≡ false → is_written 0 (to_bits binary32 spec.zero) 0 ≡ false
+left : {b : Bool} → b ≡ false → is_written false (to_bits binary32 spec.zero) 0 ≡ false
 left e = zero_out
 
 option_left : (m : ℕ) (x : Float) → stands m ≡ false → is_written (has_number (option_of m x)) (to_bits binary32 (number_or0 (option_of m x))) 0 ≡ false
@@ -504,15 +473,15 @@ module _ (m : ℕ) (s : List ℕ) (v : List Float) (ev : v ≡ floats_of (values
       let none : get_or (values_at Numbers (m / 2 / 2) s) k 0 ≡ 0 = value_missing k (replicate 20 0) (m / 2 / 2) s e ∙ get_or-replicate 20 k 0 0 h in
       rw ev (get_d_mapped (of_bits binary32) (values_at Numbers (m / 2 / 2) s) k 0 nan (omega (arith, read_long)) ∙ ap (of_bits binary32) none)
 
-  used : (k : ℕ) → k < 20 → stands (halved k (m / 2 / 2)) ≡ false → is_written 0 (to_bits binary32 (get_or v k nan)) 0 ≡ false
+  used : (k : ℕ) → k < 20 → stands (halved k (m / 2 / 2)) ≡ false → is_written false (to_bits binary32 (get_or v k nan)) 0 ≡ false
   used k h e = rw (read_zero k h e) zero_out
 
   command_within : (kind g : ℕ) (dt a b c d : Float)
-      → (stands (halved 0 (m / 2 / 2)) ≡ false → is_written 0 (to_bits binary32 dt) 0 ≡ false)
-      → (stands (halved 1 (m / 2 / 2)) ≡ false → is_written 0 (to_bits binary32 a) 0 ≡ false)
-      → (stands (halved 2 (m / 2 / 2)) ≡ false → is_written 0 (to_bits binary32 b) 0 ≡ false)
-      → (stands (halved 3 (m / 2 / 2)) ≡ false → is_written 0 (to_bits binary32 c) 0 ≡ false)
-      → (stands (halved 4 (m / 2 / 2)) ≡ false → is_written 0 (to_bits binary32 d) 0 ≡ false)
+      → (stands (halved 0 (m / 2 / 2)) ≡ false → is_written false (to_bits binary32 dt) 0 ≡ false)
+      → (stands (halved 1 (m / 2 / 2)) ≡ false → is_written false (to_bits binary32 a) 0 ≡ false)
+      → (stands (halved 2 (m / 2 / 2)) ≡ false → is_written false (to_bits binary32 b) 0 ≡ false)
+      → (stands (halved 3 (m / 2 / 2)) ≡ false → is_written false (to_bits binary32 c) 0 ≡ false)
+      → (stands (halved 4 (m / 2 / 2)) ≡ false → is_written false (to_bits binary32 d) 0 ≡ false)
       → Within Numbers (command_parts kind g dt a b c d).keeps (bits_of (command_parts kind g dt a b c d).numbers) (m / 2 / 2)
   unfolding Within number_fields bits_of command_parts
   command_within kind g dt a b c d e₀ e₁ e₂ e₃ e₄ = (
@@ -618,12 +587,12 @@ module _ (m : ℕ) (s : List ℕ) (v : List Float) (ev : v ≡ floats_of (values
         (command_within 6 (regime_byte r) _ _ _ _ _ t a b c d)
 
     -- plane is left out
-    regime_within : (kind : ℕ) → is_written 0 (parts_of (call_at kind Plane m v)).regime 1 ≡ false
+    regime_within : (kind : ℕ) → is_written false (parts_of (call_at kind Plane m v)).regime 1 ≡ false
     unfolding parts_of command_parts waypoint_parts
-    regime_within kind = of_each (λ (k : Call). is_written 0 (parts_of k).regime 1 ≡ false) kind Plane m v refl refl refl refl refl refl refl
+    regime_within kind = of_each (λ (k : Call). is_written false (parts_of k).regime 1 ≡ false) kind Plane m v refl refl refl refl refl refl refl
 
     within : (kind g : ℕ) → stands m ≡ true → (stands (m / 2) ≡ false → g ≡ 1)
-        → let c = call_at kind (regime_of g) m v in Within call_fields (Flags c) (values_of (parts_of c)) m
+        → let c = call_at kind (regime_of g) m v in Within call_fields (Flags c) (Values c) m
     unfolding Within values_of
     within kind g k e =
         rw fields_are (
@@ -633,67 +602,66 @@ module _ (m : ℕ) (s : List ℕ) (v : List Float) (ev : v ≡ floats_of (values
 
 -- ---- the laws
 
-both : (a b c : Bool) → (a && b && c) ≡ true → (b ≡ true) × (c ≡ true)
-both true true true e = (refl, refl)
-both true true false e = absurd (subst T (sym e) tt)
-both true false c e = absurd (subst T (sym e) tt)
-both false b c e = absurd (subst T (sym e) tt)
-
-complete_gives : (m : ℕ) → complete m ≡ true → (stands m ≡ true) × (m / 2 ^ 9 % 2 ≡ m / 2 ^ 10 % 2)
-unfolding complete
-complete_gives m e = let r = both (named call_fields m) (stands m) (eqb (m / 2 ^ 9 % 2) (m / 2 ^ 10 % 2)) e in (r.0, eqb-true _ _ r.1)
-
 module _ (s : List ℕ) (at : ℕ) where
   -- the map that was read, the two bytes and the numbers
   abbrev map_number : ℕ
   map_number = number_at 4 (drop at s)
 
-  abbrev Kind : ByteRead
-  Kind = byte_at s (at + 4) map_number 0
+  abbrev Kind : ℕ
+  Kind = get_or (drop at s) 4 0
 
-  abbrev Regime : ByteRead
-  Regime = byte_at s Kind.rest.at (map_number / 2) 1
+  abbrev Regime : ℕ
+  Regime = regime_at (drop at s) map_number
+
+  abbrev Rest : List ℕ
+  Rest = drop (5 + map_number / 2 % 2) (drop at s)
 
   abbrev Floats : List Float
-  Floats = floats_of (values_at Numbers (map_number / 2 / 2) (drop Regime.rest.at s))
+  Floats = floats_of (values_at Numbers (map_number / 2 / 2) Rest)
 
-  values_read : values_at call_fields map_number (drop (at + 4) s) ≡ Kind.value ∷ Regime.value ∷ values_at Numbers (map_number / 2 / 2) (drop Regime.rest.at s)
-  values_read = rw (fields_are, values_byte s (at + 4) map_number 0 (record { bytes = 1; missing = 1 } ∷ Numbers), values_byte s Kind.rest.at (map_number / 2) 1 Numbers)
+  values_read : stands map_number ≡ true → values_at call_fields map_number (drop (at + 4) s) ≡ Kind ∷ Regime ∷ values_at Numbers (map_number / 2 / 2) Rest
+  values_read k =
+      let quarter : map_number / 2 / 2 ≡ map_number / 4 = omega arith in
+      rw (← drop-drop 4 at s, quarter) (values_are (drop at s) map_number k)
 
-  regime_read : stands (map_number / 2) ≡ false → Regime.value ≡ 1
-  regime_read e = ap (λ (b : ByteRead). b.value) (sym (byte_missing s Kind.rest.at (map_number / 2) 1 e))
+  regime_read : stands (map_number / 2) ≡ false → Regime ≡ 1
+  regime_read e = rw e
 
   floats_long : length Floats ≡ 20
   unfolding number_fields
-  floats_long = floats_length (values_at Numbers (map_number / 2 / 2) (drop Regime.rest.at s)) ∙ values_long Numbers (map_number / 2 / 2) (drop Regime.rest.at s)
+  floats_long = floats_length (values_at Numbers (map_number / 2 / 2) Rest) ∙ values_long Numbers (map_number / 2 / 2) Rest
 
-  module _ (c : Call) (next : ℕ) (e : read_call s at ≡ Read c next) where
-    answered : (complete map_number ≡ true) × (call_at Kind.value (regime_of Regime.value) map_number Floats ≡ c) × (at + (4 + size_of call_fields map_number) ≡ next)
+  module _ (c : Call) (next : ℕ) (e : read_call s at ≡ call_read c next) where
+    abbrev Found : List ℕ
+    Found = values_at call_fields map_number (drop (at + 4) s)
+
+    answered : (complete map_number ≡ true) × (call_at (get_or Found 0 0) (regime_of (get_or Found 1 0)) map_number (floats_of (drop 2 Found)) ≡ c) × (at + (4 + size_of call_fields map_number) ≡ next)
     unfolding read_call
     answered =
-        inverted (has_bytes s at 4) (complete map_number) (has_bytes s at (4 + size_of call_fields map_number)) (unknown Kind.value Regime.value) _ c _ next
-        (rw values_read at e)
+        inverted (has_bytes s at 4) (complete map_number) (has_bytes s at (4 + size_of call_fields map_number)) (unknown (get_or Found 0 0) (get_or Found 1 0)) _ c _ next e
+
+    given : (stands map_number ≡ true) × (map_number / 2 ^ 9 % 2 ≡ map_number / 2 ^ 10 % 2)
+    given = complete_gives map_number answered.0
+
+    call_found : call_at Kind (regime_of Regime) map_number Floats ≡ c
+    call_found = rw (values_read given.0) at answered.1
 
     pub held : CallF32 c
-    held =
-        subst CallF32 answered.1
-        (call_fits map_number Floats
-        (floats_are (values_at Numbers (map_number / 2 / 2) (drop Regime.rest.at s))) floats_long Kind.value (regime_of Regime.value))
+    held = subst CallF32 call_found (call_fits map_number Floats (floats_are (values_at Numbers (map_number / 2 / 2) Rest)) floats_long Kind (regime_of Regime))
 
     no_longer : at + length (call_record c) ≤ next
     no_longer =
-        let g = complete_gives map_number answered.0 in
-        let w = within map_number (drop Regime.rest.at s) Floats refl g.1 Kind.value Regime.value g.0 regime_read in
-        let read = call_at Kind.value (regime_of Regime.value) map_number Floats in
-        let size : size_of call_fields (Map read) ≤ size_of call_fields map_number = rw (map_is read) (size_within call_fields (Flags read) (values_of (parts_of read)) map_number w) in
-        let size_c : size_of call_fields (Map c) ≤ size_of call_fields map_number = subst (λ (k : Call). size_of call_fields (Map k) ≤ size_of call_fields map_number) answered.1 size in
+        let w = within map_number Rest Floats refl given.1 Kind Regime given.0 regime_read in
+        let read = call_at Kind (regime_of Regime) map_number Floats in
+        let size : size_of call_fields (Map read) ≤ size_of call_fields map_number = rw (map_by_fields read) (size_within call_fields (Flags read) (values_of (parts_of read)) map_number w) in
+        let size_c : size_of call_fields (Map c) ≤ size_of call_fields map_number = subst (λ (k : Call). size_of call_fields (Map k) ≤ size_of call_fields map_number) call_found size in
         omega (arith, long c, size_c, answered.2)
 
-one : (v w : Call) (a b : ℕ) → Read v a ≡ Read w b → v ≡ w
-one v w a b e = cc
+one : (v w : Call) (a b : ℕ) → call_read v a ≡ call_read w b → v ≡ w
+one v w a b e = (same_read v w a b e).0
 
 pub call_laws : CallLaws
-call_laws = laws CallF32 call_record read_call Read stands_at held no_longer one
+call_laws = laws CallF32 call_record read_call call_read stands_at held no_longer one
 
 -- ---- the greatest length
 
@@ -704,7 +672,7 @@ size-le m = rw (size_is m) (omega (arith, ones_le 20 (m / 4)))
 longest : List ℕ
 longest = 255 ∷ 255 ∷ 63 ∷ replicate 83 0
 
-longest_read : read_call longest 0 ≡ Read Prime 86
+longest_read : read_call longest 0 ≡ call_read Prime 86
 unfolding longest read_call complete unknown call_fields number_fields size_of values_at number_at regime_of call_at floats_of
 longest_read = refl
 

@@ -20,10 +20,12 @@ use Rattle.fields.proofs.MapLaw.{floats_length}
 use Rattle.fields.proofs.FieldLaw.{ones_le, values_long, body_long}
 use Rattle.fields.proofs.RecordLaw.{map_small, fields_back, Within, size_within, all_fit_lem, floats_back, floats_are, bits_held}
 use Rattle.fields.proofs.LawsProof.{laws}
-use Rattle.records.specs.declared.config.ReadConfig.TheVariants.{Read, Refused}
+use Rattle.std.specs.Prelude.{Err}
+use Rattle.records.specs.declared.config.ReadConfig.{ReadConfig}
+use Rattle.refusals.specs.declared.Refusal.TheVariants as refusal
 use Rattle.config_numbers.specs.Numbers.{config_of, numbers_of}
 use Rattle.records.specs.Config.{config_fields, config_map, config_record, read_config}
-use Rattle.record_laws.specs.Laws.{ConfigF32, ConfigLaws, ConfigLongest}
+use Rattle.record_laws.specs.Laws.{ConfigF32, config_read, ConfigLaws, ConfigLongest}
 use Rattle.records.proofs.ConfigLaw.{fields_are, fields_long, bits_long, size_is, named_below}
 
 -- ---- where a record stands
@@ -38,7 +40,7 @@ numbers_length c = refl
 
 map_below : (c : PlaneGuidanceConfig) → config_map c < 2 ^ 33
 unfolding config_map
-map_below c = rw fields_long at (map_small config_fields (replicate 33 0) (bits_of (numbers_of c)))
+map_below c = rw fields_long at (map_small config_fields (replicate 33 false) (bits_of (numbers_of c)))
 
 -- the fields' bytes
 abbrev Body : PlaneGuidanceConfig → List ℕ
@@ -57,10 +59,10 @@ values_back : (c : PlaneGuidanceConfig) (rest : List ℕ) → ConfigF32 c → va
 unfolding config_map
 values_back c rest f =
     let held : Held config_fields (bits_of (numbers_of c)) = rw fields_are (bits_held (bits_of (numbers_of default)) (numbers_of c) (numbers_length c ∙ sym (bits_long default)) f) in
-    fields_back config_fields (replicate 33 0) (bits_of (numbers_of c)) rest (sym fields_long) held
+    fields_back config_fields (replicate 33 false) (bits_of (numbers_of c)) rest (sym fields_long) held
 
 pub stands_at : (s : List ℕ) (at : ℕ) (c : PlaneGuidanceConfig) (rest : List ℕ) → at ≤ length s → drop at s ≡ config_record c ++ rest → ConfigF32 c
-    → read_config s at ≡ Read c (at + length (config_record c))
+    → read_config s at ≡ config_read c (at + length (config_record c))
 unfolding read_config
 stands_at s at c rest h e f =
     let m = config_map c in
@@ -84,14 +86,20 @@ stands_at s at c rest h e f =
 
 -- ---- what was read
 
+-- an answer that gives a configuration has one configuration and one place
+same_read : (v w : PlaneGuidanceConfig) (a b : ℕ) → config_read v a ≡ config_read w b → (v ≡ w) × (a ≡ b)
+same_read v w a b e =
+    let r : ◌≡◌ {A = ReadConfig} (record { config = v; next = a }) (record { config = w; next = b }) = cc in
+    (ap (λ (x : ReadConfig). x.config) r, ap (λ (x : ReadConfig). x.next) r)
+
 -- a reader's answer that is no refusal
 inverted : (a b d : Bool) (v c : PlaneGuidanceConfig) (n next : ℕ)
-    → cond (not a) (Refused 5) (cond (not b) (Refused 6) (cond (not d) (Refused 5) (Read v n))) ≡ Read c next
+    → cond (not a) (Err refusal.TooFewBytes) (cond (not b) (Err refusal.UnknownMap) (cond (not d) (Err refusal.TooFewBytes) (config_read v n))) ≡ config_read c next
     → (v ≡ c) × (n ≡ next)
-inverted true true true v c n next e = (cc, cc)
-inverted true true false v c n next e = let z : ◌≡◌ {A = ℕ} 0 1 = cc in absurd (omega arith)
-inverted true false d v c n next e = let z : ◌≡◌ {A = ℕ} 0 1 = cc in absurd (omega arith)
-inverted false b d v c n next e = let z : ◌≡◌ {A = ℕ} 0 1 = cc in absurd (omega arith)
+inverted true true true v c n next e = same_read v c n next e
+inverted true true false v c n next e = absurd cc
+inverted true false d v c n next e = absurd cc
+inverted false b d v c n next e = absurd cc
 
 -- the elements of a list from place k on
 spread : ℕ → ℕ → List Float → List Float
@@ -117,14 +125,14 @@ default_held = all_fit_lem (numbers_of default) tt
 
 -- what was read and is not what missing means stood
 within : (xs : List Float) → AreF32 xs → (m : ℕ) (s : List ℕ)
-    → Within (number_fields (bits_of xs)) (replicate (length xs) 0) (bits_of (floats_of (values_at (number_fields (bits_of xs)) m s))) m
+    → Within (number_fields (bits_of xs)) (replicate (length xs) false) (bits_of (floats_of (values_at (number_fields (bits_of xs)) m s))) m
 unfolding Within number_fields bits_of floats_of values_at AreF32
 within [] h m s = tt
 within (x ∷ xs) h m s = go (stands m) refl (λ (r : List ℕ). within xs h.1 (m / 2) r)
   where
     go : (b : Bool) → stands m ≡ b
-        → ((r : List ℕ) → Within (number_fields (bits_of xs)) (replicate (length xs) 0) (bits_of (floats_of (values_at (number_fields (bits_of xs)) (m / 2) r))) (m / 2))
-        → Within (number_fields (bits_of (x ∷ xs))) (replicate (length (x ∷ xs)) 0) (bits_of (floats_of (cond b
+        → ((r : List ℕ) → Within (number_fields (bits_of xs)) (replicate (length xs) false) (bits_of (floats_of (values_at (number_fields (bits_of xs)) (m / 2) r))) (m / 2))
+        → Within (number_fields (bits_of (x ∷ xs))) (replicate (length (x ∷ xs)) false) (bits_of (floats_of (cond b
         (number_at 4 s ∷ values_at (number_fields (bits_of xs)) (m / 2) (drop 4 s)) (to_bits binary32 x ∷ values_at (number_fields (bits_of xs)) (m / 2) s)))) m
     go true e ih = (λ (q : stands m ≡ false). absurd (subst T (sym e ∙ q) tt), ih (drop 4 s))
     go false e ih = (λ (q : stands m ≡ false). rw (of_bits-to_bits binary32 x h.0, eq-eqb (to_bits binary32 x) (to_bits binary32 x) refl), ih s)
@@ -141,7 +149,7 @@ module _ (s : List ℕ) (at : ℕ) where
   unfolding values
   read_long = floats_length values ∙ values_long config_fields map_number (drop (at + 5) s) ∙ fields_long
 
-module _ (s : List ℕ) (at : ℕ) (c : PlaneGuidanceConfig) (next : ℕ) (e : read_config s at ≡ Read c next) where
+module _ (s : List ℕ) (at : ℕ) (c : PlaneGuidanceConfig) (next : ℕ) (e : read_config s at ≡ config_read c next) where
   answered : (config_of (floats_of (values s at)) ≡ c) × (at + (5 + size_of config_fields (map_number s at)) ≡ next)
   unfolding read_config values
   answered = inverted (has_bytes s at 5) (named config_fields (map_number s at)) (has_bytes s at (5 + size_of config_fields (map_number s at))) _ c _ next e
@@ -156,16 +164,16 @@ module _ (s : List ℕ) (at : ℕ) (c : PlaneGuidanceConfig) (next : ℕ) (e : r
   unfolding config_map values
   map_within =
       let w = within (numbers_of default) default_held (map_number s at) (drop (at + 5) s) in
-      rw read_numbers (size_within config_fields (replicate 33 0) (bits_of (floats_of (values s at))) (map_number s at) (rw (numbers_length default, ← fields_are) at w))
+      rw read_numbers (size_within config_fields (replicate 33 false) (bits_of (floats_of (values s at))) (map_number s at) (rw (numbers_length default, ← fields_are) at w))
 
   no_longer : at + length (config_record c) ≤ next
   no_longer = omega (arith, long c, map_within, answered.1)
 
-one : (v w : PlaneGuidanceConfig) (a b : ℕ) → Read v a ≡ Read w b → v ≡ w
-one v w a b e = cc
+one : (v w : PlaneGuidanceConfig) (a b : ℕ) → config_read v a ≡ config_read w b → v ≡ w
+one v w a b e = (same_read v w a b e).0
 
 pub config_laws : ConfigLaws
-config_laws = laws ConfigF32 config_record read_config Read stands_at held no_longer one
+config_laws = laws ConfigF32 config_record read_config config_read stands_at held no_longer one
 
 -- ---- the greatest length
 
@@ -184,7 +192,7 @@ whole_size = size_is (2 ^ 33 - 1)
 given : PlaneGuidanceConfig
 given = config_of (floats_of (values_at config_fields (2 ^ 33 - 1) (drop 5 longest)))
 
-longest_read : read_config longest 0 ≡ Read given 137
+longest_read : read_config longest 0 ≡ config_read given 137
 unfolding longest given read_config number_at
 longest_read = rw (named_below (2 ^ 33 - 1) (lit< tt), whole_size)
 

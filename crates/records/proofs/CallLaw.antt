@@ -1,33 +1,47 @@
 -- Each outcome of reading a call record, and what is written. Assumes nothing.
-use mathlib.Core.Path.{◌≡◌, refl, sym, ap, ◌∙◌}
-use mathlib.Core.Bool.{Bool, true, false, cond, not}
+use mathlib.Core.Path.{◌≡◌, refl, sym, ap, subst, ◌∙◌}
+use mathlib.Core.Bool.{Bool, true, false, cond, not, beq, ◌&&◌}
 use mathlib.Core.List.{List, [], ◌∷◌, ◌++◌, append_assoc}
-use Prim.Native.Nat.{ℕ, ◌+◌, ◌-◌, ◌*◌, ◌/◌, ◌%◌, ◌<◌, ◌≤◌, ◌^◌}
+use Prim.Native.Nat.{ℕ, zero, suc, ◌+◌, ◌-◌, ◌*◌, ◌/◌, ◌%◌, ◌<◌, ◌≤◌, ◌^◌}
 use native.Mathlib.Omega.{arith}
 use native.Mathlib.Nat.{mod-lt}
-use borrow.Author.Tests.{le-ltb, lt-ltb, le-leb, lt-leb, eqb-true, eqb-false}
-use lib.Dec.{eqb, lit<}
-use lib.ListN.{length, drop, take, replicate, length-append, length-drop, length-replicate, replicate-append-replicate, take-append-drop}
-use lib.Seq.{drop-drop, length-take-le}
-use lib.Ieee.{Float, to_bits, of_bits}
+use borrow.Author.Tests.{le-ltb, lt-ltb, leb-true, eq-eqb, ne_eqb, eqb-true, eqb-false}
+use lib.Dec.{T, eqb, ltb, lit<}
+use lib.ListN.{length, get_or, set, drop, take, replicate, length-append, length-drop, length-replicate, take-append-drop}
+use lib.Seq.{drop-drop, get_or-drop, length-take-le}
+use lib.Ieee.{Float, binary32, to_bits, of_bits}
 use Rattle.laws.specs.declared.types.FlightRegime.{FlightRegime}
 use Rattle.laws.specs.declared.types.FlightRegime.TheVariants.{Copter, Plane}
-use Rattle.fields.specs.Bytes.{number_at, bytes_of, put_at}
-use Rattle.fields.specs.Fields.{Field, ones, stands, size_of, values_at, is_written, bit_of, map_of, body_of, number_fields}
+use Rattle.fields.specs.Bytes.{number_at, bytes_of, has_bytes, put_at}
+use Rattle.fields.specs.Fields.{Field, ones, place_after, stands, bit, named, size_of, values_at, values_as, is_written, bit_of, map_of, body_of, number_fields}
 use Rattle.fields.specs.Numbers.{floats_of, bits_of}
 use Rattle.fields.proofs.NumberLaw.{bytes_long}
-use Rattle.fields.proofs.MapLaw.{bits_length, floats_joined, bits_joined, bits_drop}
-use Rattle.fields.proofs.FloatLaw.{floats_none}
-use Rattle.fields.proofs.FieldLaw.{ones_low, ones_below, values_front, body_front, map_front, rest_is, size_numbers, put_none, put_next, body_long, body_missing}
-use Rattle.records.specs.declared.call.ByteRead.{ByteRead}
+use Rattle.fields.proofs.MapLaw.{bits_length, bits_joined, bits_drop}
+use Rattle.fields.proofs.FloatLaw.{none, floats_none, floats_made}
+use Rattle.fields.proofs.FieldLaw.{ones_low, ones_below, values_front, body_front, map_front, size_numbers, put_none, put_next, body_long, body_missing}
+use Rattle.fields.proofs.RecordLaw.{map_small}
+use Rattle.records.specs.declared.call.Kind.{Kind}
+use Rattle.records.specs.declared.call.Kind.TheVariants as kind
+use Rattle.records.specs.declared.call.Head.{Head}
 use Rattle.records.specs.declared.call.Call.{Call}
 use Rattle.records.specs.declared.call.Call.TheVariants.{Prime, Attitude, Rate, Waypoint, AbsoluteAttitude, Land, AbsoluteRate}
 use Rattle.records.specs.declared.call_writer.Parts.{Parts}
 use Rattle.records.specs.declared.call_writer.Record.{Record}
-use Rattle.records.specs.declared.call.ReadCall.TheVariants.{Read, Refused}
+use Rattle.refusals.specs.declared.Refusal.{Refusal}
+use Rattle.refusals.specs.declared.Refusal.TheVariants as refusal
+use Rattle.records.specs.declared.call.ReadCall.{ReadCall}
+use Rattle.std.specs.Int.{from_bool}
+use Rattle.std.specs.Prelude.{Some, None, Ok, Err, Option, Result, MatchResult, ok_or}
+use Rattle.std.specs.Result.{IsErrAnd}
+use native.Mathlib.Numerals.{add-one}
+use Rattle.std.proofs.lemmas.List.{take-replicate, set_split}
+use Rattle.std.proofs.lemmas.Option.{none-some, slice_get_cases}
+use Rattle.records.specs.Call as spec
 use Rattle.records.specs.Call.{
-  zero,
   call_fields,
+  kinds,
+  kind_of,
+  number_of,
   complete,
   unknown,
   regime_of,
@@ -41,7 +55,8 @@ use Rattle.records.specs.Call.{
   map_of_parts,
   call_record,
 }
-use Rattle.records.specs.Code.Steps.{byte_at, byte_of}
+use Rattle.records.proofs.ConfigLaw.{exit_is}
+use Rattle.records.specs.Code.Steps.{regime_from, regime_at, floats_at, call_from, byte_of}
 
 pub fields_long : length call_fields ≡ 22
 unfolding call_fields number_fields
@@ -63,6 +78,13 @@ bit_is m = go (stands m) refl
     go true e = sym (eqb-true (m % 2) 1 e)
     go false e = let n : m % 2 ≡ 1 → ⊥ = eqb-false (m % 2) 1 e in let l : m % 2 < 2 = mod-lt m (lit< tt) in omega arith
 
+pub bit_number : (n m : ℕ) {b : Bool} {x : ℕ} → b ≡ bit n m → x ≡ from_bool b → x ≡ m / 2 ^ n % 2
+bit_number n m eb ex = ex ∙ ap from_bool eb ∙ number (bit n m) ∙ bit_is (m / 2 ^ n)
+  where
+    number : (b : Bool) → from_bool b ≡ cond b 1 0
+    number true = refl
+    number false = refl
+
 pub size_is : (m : ℕ) → size_of call_fields m ≡ m % 2 + m / 2 % 2 + 4 * ones 20 (m / 4)
 unfolding size_of
 size_is m =
@@ -75,112 +97,179 @@ counted m n e = e ∙ ones_low 20 44 (m / 4)
 
 -- ---- a map in which no number after the first n stands
 
-module _ (n d : ℕ) (all : n + d ≡ 20) (m : ℕ) (h : m < 2 ^ n) where
+module _ (n : ℕ) (all : n ≤ 20) (m : ℕ) (h : m < 2 ^ n) where
   pub front_ones : ones 20 m ≡ ones n m
-  front_ones = ap (λ (k : ℕ). ones k m) (sym all) ∙ ones_below n d m h
+  front_ones =
+      let e : n + (20 - n) ≡ 20 = omega arith in
+      ap (λ (k : ℕ). ones k m) (sym e) ∙ ones_below n (20 - n) m h
 
-  front_values : (s : List ℕ) → values_at Numbers m s ≡ values_at (number_fields (replicate n 0)) m s ++ replicate d 0
-  front_values s =
-      let long : length (replicate {A = ℕ} n 0) ≡ n = length-replicate n 0 in
-      let split : replicate {A = ℕ} 20 0 ≡ replicate n 0 ++ replicate d 0 = sym (replicate-append-replicate n d 0 ∙ ap (λ (k : ℕ). replicate k 0) all) in
-      ap (λ (l : List ℕ). values_at (number_fields l) m s) split ∙ values_front (replicate n 0) (replicate d 0) m s (rw long h)
+  -- the first n are read over +0
+  first_long : length (take n (none 20)) ≡ n
+  first_long = rw (take-replicate n 20 spec.zero all) (length-replicate n spec.zero)
 
-  pub front_floats : (s b : List ℕ) (v : List Float) → b ≡ values_at (number_fields (replicate n 0)) m s → v ≡ floats_of b
-      → v ++ replicate d zero ≡ floats_of (values_at Numbers m s)
-  front_floats s b v eb ev = rw (ev, eb, front_values s) (sym (floats_joined (values_at (number_fields (replicate n 0)) m s) (replicate d 0) ∙ rw (floats_none d)))
+  pub front_room : (from l : ℕ) → place_after from 20 m ≤ l → place_after from (length (take n (none 20))) m ≤ l
+  front_room from l r = rw first_long (omega (arith, r, front_ones))
+
+  pub front_floats : (s : List ℕ) (v : List Float) → v ≡ values_as (of_bits binary32) (take n (none 20)) m s → v ++ drop n (none 20) ≡ floats_of (values_at Numbers m s)
+  front_floats s v e =
+      let r = values_as (of_bits binary32) in
+      rw e (sym (values_front (of_bits binary32) (take n (none 20)) (drop n (none 20)) m s (rw first_long h)))
+      ∙ ap (λ (l : List Float). r l m s) (take-append-drop n (none 20) ∙ sym (floats_none 20)) ∙ floats_made (replicate 20 0) m s
 
   pub front_body : (v : List ℕ) → length (take n v) ≡ n → body_of (number_fields (take n v)) m (take n v) ≡ body_of (number_fields v) m v
   front_body v l = sym (ap (λ (x : List ℕ). body_of (number_fields x) m x) (sym (take-append-drop n v)) ∙ body_front (take n v) (drop n v) m (rw l h))
 
--- ---- fields of one byte
+-- ---- kinds and regimes
 
-module _ (s : List ℕ) (at m d : ℕ) where
-  pub byte_read : stands m ≡ true → record { value = number_at 1 (drop at s); rest = record { at = at + 1 } } ≡ byte_at s at m d
-  unfolding byte_at
-  byte_read e = rw e
+pub kind_is : (n : ℕ) (k : Kind) → kind_of n ≡ Some k → (n ≤ 6) × (number_of k ≡ n)
+kind_is zero k e = let p : kind.Prime ≡ k = cc in rw (← p) (omega arith, refl)
+kind_is (suc zero) k e = let p : kind.Attitude ≡ k = cc in rw (← p) (omega arith, refl)
+kind_is (suc (suc zero)) k e = let p : kind.Rate ≡ k = cc in rw (← p) (omega arith, refl)
+kind_is (suc (suc (suc zero))) k e = let p : kind.Waypoint ≡ k = cc in rw (← p) (omega arith, refl)
+kind_is (suc (suc (suc (suc zero)))) k e = let p : kind.AbsoluteAttitude ≡ k = cc in rw (← p) (omega arith, refl)
+kind_is (suc (suc (suc (suc (suc zero))))) k e = let p : kind.Land ≡ k = cc in rw (← p) (omega arith, refl)
+kind_is (suc (suc (suc (suc (suc (suc zero)))))) k e = let p : kind.AbsoluteRate ≡ k = cc in rw (← p) (omega arith, refl)
+kind_is (suc (suc (suc (suc (suc (suc (suc n))))))) k e = absurd (none-some k e)
 
-  pub byte_missing : stands m ≡ false → record { value = d; rest = record { at = at } } ≡ byte_at s at m d
-  unfolding byte_at
-  byte_missing e = rw e
+kind_none : (n : ℕ) → kind_of n ≡ None → 6 < n
+kind_none n e = grind (arith, slice_get_cases kinds n)
 
-  pub byte_rest : (byte_at s at m d).rest.at ≡ at + m % 2
-  byte_rest = go (stands m) refl
-    where
-      go : (b : Bool) → stands m ≡ b → (byte_at s at m d).rest.at ≡ at + m % 2
-      go true e = rw (← byte_read e) (omega (arith, eqb-true (m % 2) 1 e))
-      go false e = let n : m % 2 ≡ 1 → ⊥ = eqb-false (m % 2) 1 e in let l : m % 2 < 2 = mod-lt m (lit< tt) in rw (← byte_missing e) (omega arith)
+regime_is : (n : ℕ) (r : FlightRegime) → regime_from n ≡ Some r → (n ≤ 1) × (regime_of n ≡ r)
+unfolding regime_of
+regime_is zero r e = (omega arith, cc)
+regime_is (suc zero) r e = (omega arith, cc)
+regime_is (suc (suc n)) r e = absurd (none-some r e)
 
-  pub values_byte : (fs : List Field)
-      → values_at (record { bytes = 1; missing = d } ∷ fs) m (drop at s) ≡ (byte_at s at m d).value ∷ values_at fs (m / 2) (drop (byte_at s at m d).rest.at s)
+regime_none : (n : ℕ) → regime_from n ≡ None → 1 < n
+regime_none n e = grind (arith, slice_get_cases (Copter ∷ Plane ∷ []) n)
+
+-- ---- the values of a record whose kind stands
+
+byte_is : (s : List ℕ) (k : ℕ) → number_at 1 (drop k s) ≡ get_or s k 0
+unfolding number_at
+byte_is s k =
+    let i : k + 0 ≡ k = omega arith in
+    let e : get_or (drop k s) 0 0 ≡ get_or s k 0 = get_or-drop k s 0 0 ∙ ap (λ (j : ℕ). get_or s j 0) i in
+    omega (arith, e)
+
+-- t has the record's bytes
+module _ (t : List ℕ) (m : ℕ) (k : stands m ≡ true) where
+  pub values_are : values_at call_fields m (drop 4 t) ≡ get_or t 4 0 ∷ regime_at t m ∷ values_at Numbers (m / 4) (drop (5 + m / 2 % 2) t)
   unfolding values_at
-  values_byte fs = go (stands m) refl
+  values_are = rw (fields_are, k, byte_is t 4) (ap (λ (l : List ℕ). get_or t 4 0 ∷ l) (go (bit 1 m) refl))
     where
-      go : (b : Bool) → stands m ≡ b → cond b (number_at 1 (drop at s) ∷ values_at fs (m / 2) (drop 1 (drop at s))) (d ∷ values_at fs (m / 2) (drop at s))
-          ≡ (byte_at s at m d).value ∷ values_at fs (m / 2) (drop (byte_at s at m d).rest.at s)
-      go true e = rw (← byte_read e, drop-drop 1 at s)
-      go false e = rw (← byte_missing e)
+      quarter : m / 2 / 2 ≡ m / 4
+      quarter = omega arith
+
+      five : drop 1 (drop 4 t) ≡ drop 5 t
+      five = drop-drop 1 4 t
+
+      go : (b : Bool) → bit 1 m ≡ b
+          → cond b (number_at 1 (drop 1 (drop 4 t)) ∷ values_at Numbers (m / 2 / 2) (drop 1 (drop 1 (drop 4 t)))) (1 ∷ values_at Numbers (m / 2 / 2) (drop 1 (drop 4 t)))
+          ≡ cond b (get_or t 5 0) 1 ∷ values_at Numbers (m / 4) (drop (5 + m / 2 % 2) t)
+      go true e = let l : m / 2 % 2 ≡ 1 = eqb-true (m / 2 % 2) 1 e in rw (quarter, l, five, byte_is t 5, drop-drop 1 5 t)
+      go false e = let n : m / 2 % 2 ≡ 1 → ⊥ = eqb-false (m / 2 % 2) 1 e in let b : m / 2 % 2 < 2 = mod-lt (m / 2) (lit< tt) in let l : m / 2 % 2 ≡ 0 = omega arith in rw (quarter, l, five)
 
 -- ---- reading
 
-module _ (s : List ℕ) (at : ℕ) where
-  pub cut : length s < at + 4 → Refused 5 ≡ read_call s at
+-- two bits are alike when their truth values are
+alike : (m n : ℕ) → beq (stands m) (stands n) ≡ eqb (m % 2) (n % 2)
+alike m n = by_bits (m % 2) (n % 2) (mod-lt m (lit< tt)) (mod-lt n (lit< tt))
+  where
+    by_bits : (a b : ℕ) → a < 2 → b < 2 → beq (eqb a 1) (eqb b 1) ≡ eqb a b
+    by_bits zero zero h k = refl
+    by_bits zero (suc zero) h k = refl
+    by_bits (suc zero) zero h k = refl
+    by_bits (suc zero) (suc zero) h k = refl
+    by_bits (suc (suc a)) b h k = absurd (omega arith)
+    by_bits a (suc (suc b)) h k = absurd (omega arith)
+
+-- what `is_complete` computes
+pub complete_is : (m : ℕ) → (ltb m (2 ^ 22) && bit 0 m) && beq (bit 9 m) (bit 10 m) ≡ complete m
+unfolding complete
+complete_is m =
+    let one : m / 1 ≡ m = omega arith in
+    rw (fields_long, one, alike (m / 2 ^ 9) (m / 2 ^ 10))
+
+both : (a b c : Bool) → (a && b && c) ≡ true → (b ≡ true) × (c ≡ true)
+both true true true e = (refl, refl)
+both true true false e = absurd (subst T (sym e) tt)
+both true false c e = absurd (subst T (sym e) tt)
+both false b c e = absurd (subst T (sym e) tt)
+
+-- a complete map has the kind, and both parts of a leg or neither
+pub complete_gives : (m : ℕ) → complete m ≡ true → (stands m ≡ true) × (m / 2 ^ 9 % 2 ≡ m / 2 ^ 10 % 2)
+unfolding complete
+complete_gives m e = let r = both (named call_fields m) (stands m) (eqb (m / 2 ^ 9 % 2) (m / 2 ^ 10 % 2)) e in (r.0, eqb-true _ _ r.1)
+
+-- the exit of a `?`: r is what is returned, d the refusal and x what the reader answers
+pub refused : (r : Result Head Refusal) (P : Head → Type 0) {x : Result ReadCall Refusal} {d e : Refusal}
+    → x ≡ Err e → d ≡ e → IsErrAnd r (λ y. y ≡ d) → MatchResult r P (λ y. x ≡ Err y)
+refused r P ex ed h = rw (exit_is r h ed) ex
+
+pub missing_err : {A : Type 0} (o : Option A) (d e : Refusal) → Err d ≡ ok_or o e → d ≡ e
+missing_err None d e h = cc
+missing_err (Some x) d e h = absurd cc
+
+pub cut : (s : List ℕ) (at : ℕ) → has_bytes s at 4 ≡ false → read_call s at ≡ Err refusal.TooFewBytes
+unfolding read_call
+cut s at h = rw h
+
+-- m is what was read as the map, in t, and b whether it is complete
+module _ (s : List ℕ) (at : ℕ) (h : has_bytes s at 4 ≡ true) (t : List ℕ) (et : t ≡ drop at s) (m : ℕ) (em : m ≡ number_at 4 t) (b : Bool) (eb : b ≡ complete m) where
+  map_is_read : number_at 4 (drop at s) ≡ m
+  map_is_read = ap (number_at 4) (sym et) ∙ sym em
+
+  pub incomplete : b ≡ false → read_call s at ≡ Err refusal.UnknownMap
   unfolding read_call
-  cut h = rw (lt-leb (at + 4) (length s) h)
+  incomplete q = rw (h, map_is_read, ← eb, q)
 
-  -- m is what was read as the map, b whether it is complete
-  module _ (h : at + 4 ≤ length s) (m : ℕ) (e : m ≡ number_at 4 (take (length s - at) (drop at s))) (b : Bool) (eb : b ≡ complete m) where
-    is_map : number_at 4 (drop at s) ≡ m
-    is_map = ap (number_at 4) (sym (rest_is s at)) ∙ sym e
+  -- n is the fields' byte count
+  module _ (q : b ≡ true) (n : ℕ) (en : n ≡ size_of call_fields m) where
+    given : (stands m ≡ true) × (m / 2 ^ 9 % 2 ≡ m / 2 ^ 10 % 2)
+    given = complete_gives m (sym eb ∙ q)
 
-    pub incomplete : b ≡ false → Refused 6 ≡ read_call s at
+    pub short : has_bytes s at (4 + n) ≡ false → read_call s at ≡ Err refusal.TooFewBytes
     unfolding read_call
-    incomplete q = rw (le-leb (at + 4) (length s) h, is_map, ← eb, q)
+    short l = rw (h, map_is_read, ← eb, q, ← en, l)
 
-    -- n is the fields' byte count
-    module _ (q : b ≡ true) (n : ℕ) (en : n ≡ size_of call_fields m) where
-      pub short : length s < at + (4 + n) → Refused 5 ≡ read_call s at
+    -- r has the record's bytes
+    module _ (l : has_bytes s at (4 + n) ≡ true) (r : List ℕ) (er : r ≡ drop at s) where
+      pub room : at + (5 + m / 2 % 2 + 4 * ones 20 (m / 4)) ≤ length s
+      room = omega (arith, leb-true _ _ l, en, size_is m, eqb-true (m % 2) 1 given.0)
+
+      pub room_in_record : 5 + m / 2 % 2 + 4 * ones 20 (m / 4) ≤ length r
+      room_in_record = rw (er, length-drop at s) (omega (arith, room))
+
+      by_bytes : read_call s at
+          ≡ cond (unknown (get_or r 4 0) (regime_at r m)) (Err refusal.UnknownKind)
+          (Ok (record { call = call_at (get_or r 4 0) (regime_of (regime_at r m)) m (floats_at s (at + (5 + m / 2 % 2)) (m / 4)); next = at + (4 + n) }))
       unfolding read_call
-      short k = rw (le-leb (at + 4) (length s) h, is_map, ← eb, q, ← en, lt-leb (at + (4 + n)) (length s) k)
+      by_bytes = rw (h, map_is_read, ← eb, q, ← en, l, ← drop-drop 4 at s, values_are (drop at s) m given.0, drop-drop (5 + m / 2 % 2) at s, er)
 
-      -- k and g are the two bytes
-      module _ (l : at + (4 + n) ≤ length s) (k g : ByteRead) (ek : k ≡ byte_at s (at + 4) m 0) (eg : g ≡ byte_at s k.rest.at (m / 2) 1) where
-        values_are : values_at call_fields m (drop (at + 4) s) ≡ k.value ∷ g.value ∷ values_at Numbers (m / 4) (drop g.rest.at s)
-        values_are =
-            let quarter : m / 2 / 2 ≡ m / 4 = omega arith in
-            rw (fields_are, values_byte s (at + 4) m 0 (record { bytes = 1; missing = 1 } ∷ Numbers), ← ek, values_byte s k.rest.at (m / 2) 1 Numbers, ← eg, quarter)
-
-        pub regime_room : k.rest.at + m / 2 % 2 ≤ length s
-        regime_room = rw (ek, byte_rest s (at + 4) m 0) (omega (arith, en, size_is m))
-
-        pub numbers_room : g.rest.at + 4 * ones 20 (m / 4) ≤ length s
-        numbers_room = rw (eg, byte_rest s k.rest.at (m / 2) 1, ek, byte_rest s (at + 4) m 0) (omega (arith, en, size_is m))
-
-        no_kind : 6 < k.value → unknown k.value g.value ≡ true
+      -- k and g are the kind and the regime, if there are any
+      module _ (k : Option Kind) (ek : k ≡ kind_of (get_or r 4 0)) where
+        pub no_kind : k ≡ None → read_call s at ≡ Err refusal.UnknownKind
         unfolding unknown
-        no_kind t = rw (lt-ltb 6 k.value t)
+        no_kind z = by_bytes ∙ rw (lt-ltb 6 (get_or r 4 0) (kind_none _ (sym ek ∙ z)))
 
-        no_regime : k.value ≤ 6 → 1 < g.value → unknown k.value g.value ≡ true
-        unfolding unknown
-        no_regime t u = rw (le-ltb 6 k.value t, lt-ltb 1 g.value u)
+        module _ (kind : Kind) (ak : k ≡ Some kind) (g : Option FlightRegime) (eg : g ≡ regime_from (regime_at r m)) where
+          kind_below : (get_or r 4 0 ≤ 6) × (number_of kind ≡ get_or r 4 0)
+          kind_below = kind_is _ kind (sym ek ∙ ak)
 
-        known : k.value ≤ 6 → g.value ≤ 1 → unknown k.value g.value ≡ false
-        unfolding unknown
-        known t u = rw (le-ltb 6 k.value t, le-ltb 1 g.value u)
+          pub no_regime : g ≡ None → read_call s at ≡ Err refusal.UnknownKind
+          unfolding unknown
+          no_regime z = by_bytes ∙ rw (le-ltb 6 (get_or r 4 0) kind_below.0, lt-ltb 1 (regime_at r m) (regime_none _ (sym eg ∙ z)))
 
-        refused : unknown k.value g.value ≡ true → Refused 7 ≡ read_call s at
-        unfolding read_call
-        refused t = rw (le-leb (at + 4) (length s) h, is_map, ← eb, q, ← en, le-leb (at + (4 + n)) (length s) l, values_are, t)
-
-        pub kind_above : 6 < k.value → Refused 7 ≡ read_call s at
-        kind_above t = refused (no_kind t)
-
-        pub regime_above : k.value ≤ 6 → 1 < g.value → Refused 7 ≡ read_call s at
-        regime_above t u = refused (no_regime t u)
-
-        pub whole : k.value ≤ 6 → g.value ≤ 1 → (v : List Float) (r : FlightRegime) (c : Call) → v ≡ floats_of (values_at Numbers (m / 4) (drop g.rest.at s))
-            → r ≡ regime_of g.value → c ≡ call_at k.value r m v → Read c (at + (4 + n)) ≡ read_call s at
-        unfolding read_call
-        whole t u v r c ev er ec = rw (le-leb (at + 4) (length s) h, is_map, ← eb, q, ← en, le-leb (at + (4 + n)) (length s) l, values_are, known t u, ec, er, ev)
+          pub whole : (regime : FlightRegime) → g ≡ Some regime → (i : ℕ) → i ≡ at + (5 + m / 2 % 2)
+              → (read_call s at ≡ Ok (call_from s (record { map = m; kind = kind; regime = regime; numbers = i; next = at + (4 + n) })))
+              × (place_after i 20 (m / 4) ≤ length s)
+          unfolding unknown
+          whole regime ag i ei =
+              let below = regime_is _ regime (sym eg ∙ ag) in (
+                by_bytes ∙ rw (le-ltb 6 (get_or r 4 0) kind_below.0, le-ltb 1 (regime_at r m) below.0, below.1, kind_below.1, ei),
+                omega (arith, room, ei),
+              )
 
 -- ---- writing
 
@@ -209,7 +298,7 @@ regime_le (Land r dt) = regime_small r
 regime_le (AbsoluteRate r dt c) = regime_small r
 
 -- a regime byte that is at most 1 is written where it is 0
-pub copter_is : (g : ℕ) → g ≤ 1 → 1 - g ≡ bit_of (is_written 0 g 1)
+pub copter_is : (g : ℕ) → g ≤ 1 → 1 - g ≡ bit_of (is_written false g 1)
 copter_is g h = go (eqb g 1) refl
   where
     go : (b : Bool) → eqb g 1 ≡ b → 1 - g ≡ bit_of (not b)
@@ -217,7 +306,7 @@ copter_is g h = go (eqb g 1) refl
     go false e = let n : g ≡ 1 → ⊥ = eqb-false g 1 e in omega arith
 
 -- a call of another kind than a waypoint has five numbers, and keeps none
-command_numbers : (c : Call) → ((parts_of c).kind ≡ 3 → ⊥) → drop 5 (parts_of c).numbers ≡ replicate 15 zero
+command_numbers : (c : Call) → ((parts_of c).kind ≡ 3 → ⊥) → drop 5 (parts_of c).numbers ≡ replicate 15 spec.zero
 unfolding parts_of command_parts waypoint_parts
 command_numbers Prime h = refl
 command_numbers (Attitude r dt c) h = refl
@@ -227,7 +316,7 @@ command_numbers (AbsoluteAttitude r dt c) h = refl
 command_numbers (Land r dt) h = refl
 command_numbers (AbsoluteRate r dt c) h = refl
 
-command_keeps : (c : Call) → ((parts_of c).kind ≡ 3 → ⊥) → (parts_of c).keeps ≡ replicate 20 0
+command_keeps : (c : Call) → ((parts_of c).kind ≡ 3 → ⊥) → (parts_of c).keeps ≡ replicate 20 false
 unfolding parts_of command_parts waypoint_parts
 command_keeps Prime h = refl
 command_keeps (Attitude r dt c) h = refl
@@ -241,10 +330,10 @@ module _ (c : Call) (p : Parts) (e : p ≡ parts_of c) (h : p.kind ≡ 3 → ⊥
   no_waypoint : (parts_of c).kind ≡ 3 → ⊥
   no_waypoint k = h (ap (λ (q : Parts). q.kind) e ∙ k)
 
-  pub numbers_front : drop 5 p.numbers ≡ replicate 15 zero
+  pub numbers_front : drop 5 p.numbers ≡ replicate 15 spec.zero
   numbers_front = ap (λ (q : Parts). drop 5 q.numbers) e ∙ command_numbers c no_waypoint
 
-  pub keeps_none : p.keeps ≡ replicate 20 0
+  pub keeps_none : p.keeps ≡ replicate 20 false
   keeps_none = ap (λ (q : Parts). q.keeps) e ∙ command_keeps c no_waypoint
 
 -- a list whose elements from the sixth on are fifteen
@@ -253,33 +342,81 @@ front_long v z e =
     let l : length v - 5 ≡ 15 = sym (length-drop 5 v) ∙ ap length e in
     length-take-le 5 v (omega arith)
 
-bits_zero : bits_of (replicate 15 zero) ≡ replicate 15 0
+bits_zero : bits_of (replicate 15 spec.zero) ≡ replicate 15 0
 unfolding bits_of to_bits of_bits
 bits_zero = refl
 
-pub front_bits : (v : List Float) (b : List ℕ) → drop 5 v ≡ replicate 15 zero → b ≡ bits_of (take 5 v) → b ++ replicate 15 0 ≡ bits_of v
+pub front_bits : (v : List Float) (b : List ℕ) → drop 5 v ≡ replicate 15 spec.zero → b ≡ bits_of (take 5 v) → b ++ replicate 15 0 ≡ bits_of v
 front_bits v b e eb = sym (ap bits_of (sym (take-append-drop 5 v)) ∙ bits_joined (take 5 v) (drop 5 v) ∙ rw (e, bits_zero, eb))
 
-pub bits_after : (v : List Float) (b : List ℕ) → drop 5 v ≡ replicate 15 zero → b ≡ bits_of v → drop 5 b ≡ replicate 15 0
+pub bits_after : (v : List Float) (b : List ℕ) → drop 5 v ≡ replicate 15 spec.zero → b ≡ bits_of v → drop 5 b ≡ replicate 15 0
 bits_after v b e eb = rw (eb, bits_drop 5 v, e, bits_zero)
 
-map_zero : map_of (number_fields (replicate 15 0)) (replicate 15 0) (replicate 15 0) ≡ 0
+map_zero : map_of (number_fields (replicate 15 0)) (replicate 15 false) (replicate 15 0) ≡ 0
 unfolding map_of number_fields
 map_zero = refl
 
 pub front_map : (v : List ℕ) → drop 5 v ≡ replicate 15 0
-    → map_of (number_fields (replicate 5 0)) (replicate (length (take 5 v)) 0) (take 5 v) ≡ map_of Numbers (replicate 20 0) v
+    → map_of (number_fields (replicate 5 0)) (replicate (length (take 5 v)) false) (take 5 v) ≡ map_of Numbers (replicate 20 false) v
 front_map v e =
     let l : length (take 5 v) ≡ 5 = front_long v 0 e in
     rw l
     (sym
-    (ap (map_of Numbers (replicate 20 0)) (sym (take-append-drop 5 v))
-    ∙ map_front (replicate 5 0) (replicate 15 0) (replicate 5 0) (replicate 15 0) (take 5 v) (drop 5 v) refl l (rw e map_zero)))
+    (ap (map_of Numbers (replicate 20 false)) (sym (take-append-drop 5 v))
+    ∙ map_front (replicate 5 0) (replicate 15 0) (replicate 5 false) (replicate 15 false) (take 5 v) (drop 5 v) refl l (rw e map_zero)))
 
 pub map_is : (p : Parts) (v : List ℕ) (r : ℕ) → v ≡ bits_of p.numbers
-    → r ≡ 1 + 2 * (bit_of (is_written 0 p.regime 1) + 2 * map_of Numbers p.keeps v) → r ≡ map_of_parts p
+    → r ≡ 1 + 2 * (bit_of (is_written false p.regime 1) + 2 * map_of Numbers p.keeps v) → r ≡ map_of_parts p
 unfolding map_of_parts values_of map_of
 map_is p v r ev er = er ∙ rw (fields_are, ev)
+
+-- ---- the record of a call
+
+pub keeps_long : (c : Call) → length (parts_of c).keeps ≡ 20
+unfolding parts_of command_parts waypoint_parts
+keeps_long Prime = refl
+keeps_long (Attitude r dt c) = refl
+keeps_long (Rate r dt c) = refl
+keeps_long (Waypoint r dt c s cap) = refl
+keeps_long (AbsoluteAttitude r dt c) = refl
+keeps_long (Land r dt) = refl
+keeps_long (AbsoluteRate r dt c) = refl
+
+-- the flags, the values and the map of a call's fields
+abbrev pub Flags : Call → List Bool
+Flags c = true ∷ false ∷ (parts_of c).keeps
+
+abbrev pub Values : Call → List ℕ
+Values c = values_of (parts_of c)
+
+abbrev pub Map : Call → ℕ
+Map c = map_of_parts (parts_of c)
+
+pub flags_long : (c : Call) → length (Flags c) ≡ length call_fields
+flags_long c = rw (keeps_long c, fields_long)
+
+pub call_values_long : (c : Call) → length (Values c) ≡ length call_fields
+unfolding values_of
+call_values_long c = rw (bits_length (parts_of c).numbers, parts_long c, fields_long)
+
+pub map_by_fields : (c : Call) → Map c ≡ map_of call_fields (Flags c) (Values c)
+unfolding map_of_parts
+map_by_fields c = refl
+
+pub map_below : (c : Call) → Map c < 2 ^ 22
+map_below c = rw (map_by_fields c) (rw fields_long at (map_small call_fields (Flags c) (Values c)))
+
+pub call_is : (c : Call) → call_record c ≡ bytes_of 4 (Map c) ++ body_of call_fields (Map c) (Values c)
+unfolding call_record
+call_is c = refl
+
+pub call_long : (c : Call) → length (call_record c) ≡ 4 + size_of call_fields (Map c)
+call_long c =
+    rw (call_is c)
+    (length-append (bytes_of 4 (Map c)) (body_of call_fields (Map c) (Values c))
+    ∙ omega (arith, bytes_long 4 (Map c), body_long call_fields (Values c) (Map c) (call_values_long c)))
+
+-- ---- the bytes that the writer writes
 
 -- no byte that is written, or one
 byte_long : (m v : ℕ) → length (byte_of m v) ≡ m % 2
@@ -290,13 +427,17 @@ byte_long m v = go (stands m) refl
     go true e = sym (eqb-true (m % 2) 1 e)
     go false e = let n : m % 2 ≡ 1 → ⊥ = eqb-false (m % 2) 1 e in let l : m % 2 < 2 = mod-lt m (lit< tt) in omega arith
 
-pub byte_written : (out : List ℕ) (at m v : ℕ) → stands m ≡ true → put_at out at (bytes_of 1 v) ≡ put_at out at (byte_of m v)
-unfolding byte_of
-byte_written out at m v e = rw e
+pub byte_written : (out : List ℕ) (at m v : ℕ) → at < length out → v < 256 → (m % 2 ≡ 0 → ⊥) → set out at v ≡ put_at out at (byte_of m v)
+unfolding byte_of bytes_of
+byte_written out at m v h k e =
+    let l : m % 2 < 2 = mod-lt m (lit< tt) in
+    let one : m % 2 ≡ 1 = omega arith in
+    let low : v % 256 ≡ v = omega arith in
+    rw (eq-eqb (m % 2) 1 one, low, set_split out at v h, add-one at)
 
-pub byte_left : (out : List ℕ) (at m v : ℕ) → stands m ≡ false → out ≡ put_at out at (byte_of m v)
+pub byte_left : (out : List ℕ) (at m v : ℕ) → m % 2 ≡ 0 → out ≡ put_at out at (byte_of m v)
 unfolding byte_of
-byte_left out at m v e = rw e (put_none out at)
+byte_left out at m v e = let n : m % 2 ≡ 1 → ⊥ = λ o. omega arith in rw (ne_eqb (m % 2) 1 n) (put_none out at)
 
 body_is : (m k g : ℕ) (v : List ℕ) → length v ≡ 20 → body_of call_fields m (k ∷ g ∷ v) ≡ byte_of m k ++ (byte_of (m / 2) g ++ body_of (number_fields v) (m / 4) v)
 unfolding body_of byte_of
@@ -333,7 +474,7 @@ abbrev pub IsRecord : Call → Record → Type 0
 IsRecord c r = (r.map ≡ map_of_parts (parts_of c)) × (r.kind ≡ (parts_of c).kind) × (r.regime ≡ (parts_of c).regime) × (r.numbers ≡ bits_of (parts_of c).numbers)
 
 pub is_record : (c : Call) (p : Parts) (v : List ℕ) (m : ℕ) → p ≡ parts_of c → v ≡ bits_of p.numbers
-    → m ≡ 1 + 2 * (bit_of (is_written 0 p.regime 1) + 2 * map_of Numbers p.keeps v)
+    → m ≡ 1 + 2 * (bit_of (is_written false p.regime 1) + 2 * map_of Numbers p.keeps v)
     → IsRecord c (record { map = m; kind = p.kind; regime = p.regime; numbers = v })
 is_record c p v m ep ev em = (
   map_is p v m ev em ∙ ap map_of_parts ep,
@@ -343,7 +484,7 @@ is_record c p v m ep ev em = (
 )
 
 pub is_command : (c : Call) (p : Parts) (v : List ℕ) (m : ℕ) → p ≡ parts_of c → (p.kind ≡ 3 → ⊥) → v ≡ bits_of p.numbers
-    → m ≡ 1 + 2 * (bit_of (is_written 0 p.regime 1) + 2 * map_of Numbers (replicate 20 0) v)
+    → m ≡ 1 + 2 * (bit_of (is_written false p.regime 1) + 2 * map_of Numbers (replicate 20 false) v)
     → IsRecord c (record { map = m; kind = p.kind; regime = p.regime; numbers = v })
 is_command c p v m ep h ev em = is_record c p v m ep ev (em ∙ sym (rw (keeps_none c p ep h)))
 

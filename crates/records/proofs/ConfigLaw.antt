@@ -2,20 +2,24 @@
 use mathlib.Core.Path.{◌≡◌, refl, sym, ap, ◌∙◌}
 use mathlib.Core.Bool.{true, false}
 use mathlib.Core.List.{List, ◌++◌}
-use Prim.Native.Nat.{ℕ, ◌+◌, ◌-◌, ◌*◌, ◌<◌, ◌≤◌, ◌^◌}
+use Prim.Native.Nat.{ℕ, ◌+◌, ◌*◌, ◌<◌, ◌≤◌, ◌^◌}
 use native.Mathlib.Omega.{arith}
-use borrow.Author.Tests.{le-ltb, lt-ltb, le-leb, lt-leb}
-use lib.ListN.{length, drop, take, replicate, length-append}
+use borrow.Author.Tests.{le-ltb, lt-ltb, leb-true}
+use lib.ListN.{length, drop, replicate, length-append}
 use Rattle.laws.specs.declared.config.PlaneGuidanceConfig.{PlaneGuidanceConfig}
 use Rattle.laws.specs.Config.{default}
-use Rattle.fields.specs.Bytes.{number_at, bytes_of}
-use Rattle.fields.specs.Fields.{ones, named, size_of, values_at, map_of, body_of, number_fields}
+use Rattle.fields.specs.Bytes.{number_at, bytes_of, has_bytes}
+use Rattle.fields.specs.Fields.{ones, place_after, named, size_of, values_as, map_of, body_of, number_fields}
 use Rattle.fields.specs.Numbers.{floats_of, bits_of}
 use Rattle.config_numbers.specs.Numbers.{config_of, numbers_of}
 use Rattle.records.specs.Config.{config_fields, config_map, config_record, read_config}
-use Rattle.records.specs.declared.config.ReadConfig.TheVariants.{Read, Refused}
+use Rattle.refusals.specs.declared.Refusal.TheVariants as refusal
+use Rattle.std.specs.Prelude.{Result, Ok, Err}
+use Rattle.std.specs.Result.{IsErrAnd}
+use Rattle.std.proofs.lemmas.Result.{err_from_is_err_and}
+use Rattle.refusals.specs.declared.Refusal.{Refusal}
 use Rattle.fields.proofs.NumberLaw.{bytes_long}
-use Rattle.fields.proofs.FieldLaw.{ones_below, rest_is, size_numbers, body_numbers, body_missing}
+use Rattle.fields.proofs.FieldLaw.{ones_below, values_same, size_numbers, body_numbers, body_missing}
 
 pub bits_long : (c : PlaneGuidanceConfig) → length (bits_of (numbers_of c)) ≡ 33
 unfolding bits_of numbers_of
@@ -44,41 +48,47 @@ named_above m h = rw fields_long (le-ltb m (2 ^ 33) h)
 
 -- ---- reading
 
+-- the exit of a `?`: r is what is returned, and d the refusal
+pub exit_is : {A : Type 0} (r : Result A Refusal) {d e : Refusal} → IsErrAnd r (λ y. y ≡ d) → d ≡ e → r ≡ Err e
+exit_is r h ed = let w = err_from_is_err_and r h in w.1 ∙ ap Err (w.2 ∙ ed)
+
 module _ (s : List ℕ) (at : ℕ) where
-  pub cut : length s < at + 5 → Refused 5 ≡ read_config s at
+  pub cut : has_bytes s at 5 ≡ false → Err refusal.TooFewBytes ≡ read_config s at
   unfolding read_config
-  cut h = rw (lt-leb (at + 5) (length s) h)
+  cut h = rw h
 
-  -- m is what was read as the map
-  module _ (h : at + 5 ≤ length s) (m : ℕ) (e : m ≡ number_at 5 (take (length s - at) (drop at s))) where
-    is_map : number_at 5 (drop at s) ≡ m
-    is_map = ap (number_at 5) (sym (rest_is s at)) ∙ sym e
+  -- m is what was read as the map, in t
+  module _ (h : has_bytes s at 5 ≡ true) (t : List ℕ) (et : t ≡ drop at s) (m : ℕ) (em : m ≡ number_at 5 t) where
+    map_is_read : number_at 5 (drop at s) ≡ m
+    map_is_read = ap (number_at 5) (sym et) ∙ sym em
 
-    pub unnamed : 2 ^ 33 ≤ m → Refused 6 ≡ read_config s at
+    pub unnamed : 2 ^ 33 ≤ m → Err refusal.UnknownMap ≡ read_config s at
     unfolding read_config
-    unnamed b = rw (le-leb (at + 5) (length s) h, is_map, named_above m b)
+    unnamed b = rw (h, map_is_read, named_above m b)
 
     -- n is what was counted
-    module _ (b : m < 2 ^ 33) (n : ℕ) (en : n ≡ ones 33 m) where
+    module _ (b : m < 2 ^ 33) (n : ℕ) (en : n ≡ ones 64 m) where
       size : 5 + size_of config_fields m ≡ 5 + 4 * n
-      size = rw (size_is m, en)
+      size = rw (size_is m, counted m n b en)
 
-      pub short : length s < at + (5 + 4 * n) → Refused 5 ≡ read_config s at
+      pub short : has_bytes s at (5 + 4 * n) ≡ false → Err refusal.TooFewBytes ≡ read_config s at
       unfolding read_config
-      short k = rw (le-leb (at + 5) (length s) h, is_map, named_below m b, size, lt-leb (at + (5 + 4 * n)) (length s) k)
+      short k = rw (h, map_is_read, named_below m b, size, k)
 
-      pub whole : at + (5 + 4 * n) ≤ length s → (d v : List ℕ) (r : PlaneGuidanceConfig) (next : ℕ) → d ≡ bits_of (numbers_of default)
-          → v ≡ values_at (number_fields d) m (drop (at + 5) s) → next ≡ at + 5 + 4 * ones (length d) m → r ≡ config_of (floats_of v) → Read r next ≡ read_config s at
-      unfolding read_config
-      whole k d v r next ed ev ex er =
-          let fields : number_fields d ≡ config_fields = rw (ed, fields_are) in
-          let long : length d ≡ 33 = rw ed (bits_long default) in
-          let place : next ≡ at + (5 + 4 * n) = ex ∙ rw (long, en) (omega arith) in
-          rw (le-leb (at + 5) (length s) h, is_map, named_below m b, size, le-leb (at + (5 + 4 * n)) (length s) k, er, ev, fields, place)
+      module _ (k : has_bytes s at (5 + 4 * n) ≡ true) (d : List ℕ) (ed : d ≡ bits_of (numbers_of default)) where
+        pub room : place_after (at + 5) (length d) m ≤ length s
+        room = rw (ed, bits_long default) (omega (arith, leb-true _ _ k, counted m n b en))
+
+        pub whole : (v : List ℕ) (c : PlaneGuidanceConfig) → v ≡ values_as (λ (x : ℕ). x) d m (drop (at + 5) s) → c ≡ config_of (floats_of v)
+            → Ok (record { config = c; next = at + (5 + 4 * n) }) ≡ read_config s at
+        unfolding read_config
+        whole v c ev ec =
+            let fields : number_fields d ≡ config_fields = rw (ed, fields_are) in
+            rw (h, map_is_read, named_below m b, size, k, ec, ev, values_same d m (drop (at + 5) s), fields)
 
 -- ---- writing
 
-pub map_is : (c : PlaneGuidanceConfig) (v : List ℕ) (r : ℕ) → v ≡ bits_of (numbers_of c) → r ≡ map_of config_fields (replicate 33 0) v → r ≡ config_map c
+pub map_is : (c : PlaneGuidanceConfig) (v : List ℕ) (r : ℕ) → v ≡ bits_of (numbers_of c) → r ≡ map_of config_fields (replicate 33 false) v → r ≡ config_map c
 unfolding config_map
 map_is c v r ev er = er ∙ rw ev
 

@@ -1,11 +1,13 @@
 -- Call record: "4-byte map, low byte first, then fields by bit". Definitions only.
-use Rattle.std.specs.Prelude.{Bool, cond, not, ◌&&◌, ◌||◌, List, [], ◌∷◌, ◌++◌, ℕ, ◌+◌, ◌-◌, ◌/◌, ◌%◌, ◌^◌, eqb, ltb, drop, get_or, replicate, Float}
+use Rattle.std.specs.Prelude.{Bool, true, false, cond, is_some, unwrap_or, slice_get, not, ◌&&◌, ◌||◌, List, [], ◌∷◌, ◌++◌, ℕ, ◌+◌, ◌-◌, ◌/◌, ◌%◌, ◌^◌, eqb, ltb, drop, get_or, replicate, Float, Option, Result, Ok, Err}
 use Rattle.std.specs.Float.{nan, binary32}
 use Rattle.std.specs.Float.Ieee.{of_bits}
-use Rattle.laws.specs.declared.types.OptionF32.{OptionF32}
-use Rattle.laws.specs.declared.types.OptionF32.TheVariants as number
-use Rattle.laws.specs.declared.types.OptionVec2.{OptionVec2}
-use Rattle.laws.specs.declared.types.OptionVec2.TheVariants as leg
+use Rattle.std.specs.Bool.{then_some}
+use Rattle.std.specs.Option.{option_map_or}
+use Rattle.std.specs.Result.{result_map_both}
+use Rattle.refusals.specs.declared.Refusal.{Refusal}
+use Rattle.refusals.specs.declared.Refusal.TheVariants as refusal
+use Rattle.arithmetic.specs.declared.vector.Vec2.{Vec2}
 use Rattle.laws.specs.declared.types.FlightRegime.{FlightRegime}
 use Rattle.laws.specs.declared.types.FlightRegime.TheVariants.{Copter, Plane}
 use Rattle.laws.specs.declared.types.AttitudeCommand.{AttitudeCommand}
@@ -18,12 +20,11 @@ use Rattle.fields.specs.Bytes.{number_at, bytes_of, has_bytes}
 use Rattle.fields.specs.Fields.{Field, stands, named, size_of, values_at, map_of, body_of, number_fields}
 use Rattle.fields.specs.Numbers.{floats_of, bits_of}
 use Rattle.records.specs.declared.call_writer.Parts.{Parts}
+use Rattle.records.specs.declared.call.Kind.{Kind}
+use Rattle.records.specs.declared.call.Kind.TheVariants as kind
 use Rattle.records.specs.declared.call.Call.{Call}
 use Rattle.records.specs.declared.call.Call.TheVariants.{Prime, Attitude, Rate, Waypoint, AbsoluteAttitude, Land, AbsoluteRate}
 use Rattle.records.specs.declared.call.ReadCall.{ReadCall}
-use Rattle.records.specs.declared.call.ReadCall.TheVariants as read
-use Rattle.records.specs.declared.call.Skipped.{Skipped}
-use Rattle.records.specs.declared.call.Skipped.TheVariants as skip
 
 -- +0
 abbrev pub zero : Float
@@ -32,6 +33,23 @@ zero = of_bits binary32 0
 -- bit 0 kind byte; 1 regime byte, missing is plane; 2 to 21 numbers, missing is +0
 unfoldable pub call_fields : List Field
 call_fields = record { bytes = 1; missing = 0 } ∷ record { bytes = 1; missing = 1 } ∷ number_fields (replicate 20 0)
+
+-- the kinds, in the order of their numbers
+abbrev pub kinds : List Kind
+kinds = kind.Prime ∷ kind.Attitude ∷ kind.Rate ∷ kind.Waypoint ∷ kind.AbsoluteAttitude ∷ kind.Land ∷ kind.AbsoluteRate ∷ []
+
+-- the kind of a number, if there is one
+abbrev pub kind_of : ℕ → Option Kind
+kind_of n = slice_get kinds n
+
+abbrev pub number_of : Kind → ℕ
+number_of kind.Prime = 0
+number_of kind.Attitude = 1
+number_of kind.Rate = 2
+number_of kind.Waypoint = 3
+number_of kind.AbsoluteAttitude = 4
+number_of kind.Land = 5
+number_of kind.AbsoluteRate = 6
 
 -- ---- reading
 
@@ -52,12 +70,12 @@ abbrev pub at : List Float → ℕ → Float
 at v n = get_or v (n - 2) nan
 
 -- a number that is none where its bit, the lowest of a map, does not stand
-unfoldable pub option_of : ℕ → Float → OptionF32
-option_of m x = cond (stands m) (number.Some x) number.None
+unfoldable pub option_of : ℕ → Float → Option Float
+option_of m x = then_some (stands m) x
 
 -- a leg likewise
-unfoldable pub leg_of : ℕ → Float → Float → OptionVec2
-leg_of m x y = cond (stands m) (leg.Some (record { x = x; y = y })) leg.None
+unfoldable pub leg_of : ℕ → Float → Float → Option Vec2
+leg_of m x y = then_some (stands m) (record { x = x; y = y })
 
 -- bits 3 to 6: command numbers in the order `guide_capped` reads them
 unfoldable pub attitude_at : List Float → AttitudeCommand
@@ -102,23 +120,22 @@ call_at kind r m v =
     (AbsoluteRate r (at v 2) (absolute_rate_at v)))))))
 
 -- 5 for a place past the end or a map cut short, 6, 5 for fewer bytes than the map demands, 7
-unfoldable pub read_call : List ℕ → ℕ → ReadCall
+unfoldable pub read_call : List ℕ → ℕ → Result ReadCall Refusal
 read_call s at =
     let map = number_at 4 (drop at s) in
     let size = 4 + size_of call_fields map in
     let values = values_at call_fields map (drop (at + 4) s) in
     let kind = get_or values 0 0 in
     let regime = get_or values 1 0 in
-    cond (not (has_bytes s at 4)) (read.Refused 5)
-    (cond (not (complete map)) (read.Refused 6)
-    (cond (not (has_bytes s at size)) (read.Refused 5)
-    (cond (unknown kind regime) (read.Refused 7)
-    (read.Read (call_at kind (regime_of regime) map (floats_of (drop 2 values))) (at + size)))))
+    cond (not (has_bytes s at 4)) (Err refusal.TooFewBytes)
+    (cond (not (complete map)) (Err refusal.UnknownMap)
+    (cond (not (has_bytes s at size)) (Err refusal.TooFewBytes)
+    (cond (unknown kind regime) (Err refusal.UnknownKind)
+    (Ok (record { call = call_at kind (regime_of regime) map (floats_of (drop 2 values)); next = at + size })))))
 
 -- the place after the record, without the call
-abbrev pub skipped : ReadCall → Skipped
-skipped (read.Read call next) = skip.Next next
-skipped (read.Refused r) = skip.Refused r
+abbrev pub skipped : Result ReadCall Refusal → Result ℕ Refusal
+skipped a = result_map_both (λ r. r.next) (λ e. e) a
 
 -- ---- writing
 
@@ -126,38 +143,33 @@ abbrev pub regime_byte : FlightRegime → ℕ
 regime_byte Copter = 0
 regime_byte Plane = 1
 
-abbrev pub number_or0 : OptionF32 → Float
-number_or0 number.None = zero
-number_or0 (number.Some x) = x
+abbrev pub number_or0 : Option Float → Float
+number_or0 x = unwrap_or x zero
 
-abbrev pub has_number : OptionF32 → ℕ
-has_number number.None = 0
-has_number (number.Some x) = 1
+abbrev pub has_number : Option Float → Bool
+has_number x = is_some x
 
-abbrev pub leg_north : OptionVec2 → Float
-leg_north leg.None = zero
-leg_north (leg.Some l) = l.x
+abbrev pub leg_north : Option Vec2 → Float
+leg_north leg = option_map_or (λ l. l.x) leg zero
 
-abbrev pub leg_east : OptionVec2 → Float
-leg_east leg.None = zero
-leg_east (leg.Some l) = l.y
+abbrev pub leg_east : Option Vec2 → Float
+leg_east leg = option_map_or (λ l. l.y) leg zero
 
-abbrev pub has_leg : OptionVec2 → ℕ
-has_leg leg.None = 0
-has_leg (leg.Some l) = 1
+abbrev pub has_leg : Option Vec2 → Bool
+has_leg leg = is_some leg
 
--- What a record has of a call: the two bytes, the numbers of bits 2 to 21, and a 1 for each number that is written whatever
--- its value. A number that its kind doesn't use is +0, what missing would give, and so is never written.
+-- What a record has of a call: the two bytes, the numbers of bits 2 to 21, and which of these are written whatever
+-- their values. A number that its kind doesn't use is +0, what missing would give, and so is never written.
 unfoldable pub command_parts : ℕ → ℕ → Float → Float → Float → Float → Float → Parts
 command_parts kind regime dt a b c d = record {
   kind = kind;
   regime = regime;
   numbers = dt ∷ a ∷ b ∷ c ∷ d ∷ replicate 15 zero;
-  keeps = replicate 20 0;
+  keeps = replicate 20 false;
 }
 
 -- a leg, an airspeed and a cap that are present are written whatever their values
-unfoldable pub waypoint_parts : ℕ → Float → WaypointCommand → VehicleState → OptionF32 → Parts
+unfoldable pub waypoint_parts : ℕ → Float → WaypointCommand → VehicleState → Option Float → Parts
 waypoint_parts regime dt c s cap = record {
   kind = 3;
   regime = regime;
@@ -170,8 +182,7 @@ waypoint_parts regime dt c s cap = record {
       s.velocity_mps.x ∷ s.velocity_mps.y ∷ s.velocity_mps.z ∷
       s.roll_rad ∷ number_or0 s.airspeed_mps ∷ number_or0 cap ∷ [];
   keeps =
-      0 ∷ 0 ∷ 0 ∷ 0 ∷ 0 ∷ 0 ∷ 0 ∷ has_leg c.velocity_mps ∷ has_leg c.velocity_mps ∷
-      0 ∷ 0 ∷ 0 ∷ 0 ∷ 0 ∷ 0 ∷ 0 ∷ 0 ∷ 0 ∷ has_number s.airspeed_mps ∷ has_number cap ∷ [];
+      replicate 7 false ++ has_leg c.velocity_mps ∷ has_leg c.velocity_mps ∷ replicate 9 false ++ has_number s.airspeed_mps ∷ has_number cap ∷ [];
 }
 
 -- a prime has no regime: what missing would give
@@ -190,7 +201,7 @@ values_of p = p.kind ∷ p.regime ∷ bits_of p.numbers
 
 -- the map; the kind is always written
 unfoldable pub map_of_parts : Parts → ℕ
-map_of_parts p = map_of call_fields (1 ∷ 0 ∷ p.keeps) (values_of p)
+map_of_parts p = map_of call_fields (true ∷ false ∷ p.keeps) (values_of p)
 
 -- a call's record
 unfoldable pub call_record : Call → List ℕ

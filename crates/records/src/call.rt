@@ -1,34 +1,74 @@
 // The call record, a 4-byte map, then fields by bit: what it holds, and its reader.
-ghost use Rattle.std.specs.Prelude.{◌≡◌, ◌≤◌, ◌<◌, ◌+◌, ◌*◌, ◌%◌, length, drop, replicate};
-ghost use Rattle.fields.specs.Fields.{ones, size_of, values_at, number_fields};
-ghost use Rattle.fields.specs.Numbers.{floats_of};
+ghost use Rattle.std.specs.Prelude.{◌≡◌, ◌≤◌, ◌<◌, ◌+◌, ◌*◌, ◌/◌, ◌%◌, ◌^◌, length, MatchResult, Ok, Err};
+ghost use Rattle.fields.specs.Fields.{bit, place_after, size_of};
 ghost use Rattle.records.specs.Call as spec;
-ghost use Rattle.records.specs.Code.Steps.{byte_at};
+ghost use Rattle.records.specs.Code.Steps.{regime_from, regime_at, floats_at, call_from};
 
+use crate::part::bytes_from;
 use arithmetic::vector::Vec2;
-use fields::bytes::read_number;
-use fields::numbers::{read_floats, read_group};
-use fields::{Cursor, count};
+use fields::bytes::read_word;
+use fields::numbers::read_group;
+use fields::{count, read_values};
 use laws::types::{
-    AbsoluteAttitudeCommand, AbsoluteRateCommand, AttitudeCommand, FlightRegime, OptionF32,
-    OptionVec2, RateCommand, Vec3, VehicleState, WaypointCommand,
+    AbsoluteAttitudeCommand, AbsoluteRateCommand, AttitudeCommand, FlightRegime, RateCommand, Vec3,
+    VehicleState, WaypointCommand,
 };
+use refusals::Refusal;
 
-// The bits of the map that the reader looks at: 0 kind, 1 regime, 2 to 21 numbers, of these 9 and 10 the leg, 20 airspeed and 21 cap.
+// The bits of the map that are looked at alone: 2 to 21 are numbers, of these 9 and 10 the leg.
+const KIND: u32 = 0;
+
+const REGIME: u32 = 1;
+
+const LEG_NORTH: u32 = 9;
+
+const LEG_EAST: u32 = 10;
+
+const AIRSPEED: u32 = 20;
+
+const CAP: u32 = 21;
+
 const FIRST_NUMBER: u64 = 1 << 2;
-
-const LEG_NORTH: u64 = 1 << 9;
-
-const LEG_EAST: u64 = 1 << 10;
-
-const AIRSPEED: u64 = 1 << 20;
-
-const CAP: u64 = 1 << 21;
 
 const FIRST_UNNAMED: u64 = 1 << 22;
 
 // 2 to the count of the numbers: what bits 2 to 21 of a map come to is below it.
 const ALL_NUMBERS: u64 = 1 << 20;
+
+// The kinds of calls, in the order of their numbers.
+#[derive(Clone, Copy, PartialEq, Eq)]
+pub enum Kind {
+    Prime,
+    Attitude,
+    Rate,
+    Waypoint,
+    AbsoluteAttitude,
+    Land,
+    AbsoluteRate,
+}
+
+impl Kind {
+    pub fn from_number(n: u32) -> Option<Kind>
+        ensures { result ≡ spec.kind_of n }
+    {
+        match n {
+            0 => Some(Kind::Prime),
+            1 => Some(Kind::Attitude),
+            2 => Some(Kind::Rate),
+            3 => Some(Kind::Waypoint),
+            4 => Some(Kind::AbsoluteAttitude),
+            5 => Some(Kind::Land),
+            6 => Some(Kind::AbsoluteRate),
+            _ => None,
+        }
+    }
+
+    pub fn number(self) -> u8
+        ensures { result ≡ spec.number_of self }
+    {
+        self as u8
+    }
+}
 
 // A call by its kind, with what the kind uses.
 #[derive(Clone, Copy)]
@@ -49,7 +89,7 @@ pub enum Call {
         dt: f32,
         command: WaypointCommand,
         state: VehicleState,
-        cap: OptionF32,
+        cap: Option<f32>,
     },
     AbsoluteAttitude {
         regime: FlightRegime,
@@ -67,117 +107,113 @@ pub enum Call {
     },
 }
 
-// What the reader answers: the call and the place after the record, or the refusal's number.
+// A call that was read, and the place after its record.
 #[derive(Clone, Copy)]
-pub enum ReadCall {
-    Read { call: Call, next: usize },
-    Refused(u8),
+pub struct ReadCall {
+    pub call: Call,
+    pub next: usize,
 }
 
-// What is left of that without the call: the place after the record, or the refusal's number.
-#[derive(Clone, Copy)]
-pub enum Skipped {
-    Next(usize),
-    Refused(u8),
+// Whether bit n of a map stands.
+pub fn stands(map: u64, n: u32) -> bool
+    requires { n < 64 }
+    ensures { result ≡ bit n map }
+{
+    map >> n & 1 == 1
 }
 
 // What refusal 6 asks of a map: no unnamed bit, the kind bit, both parts of a leg or neither.
+#[tactic(auto, using(crate::proofs::CallLaw::complete_is))]
 pub fn is_complete(map: u64) -> bool
     ensures { result ≡ spec.complete map }
 {
-    if FIRST_UNNAMED <= map {
-        return false;
-    }
-    if map % 2 != 1 {
-        return false;
-    }
-    map / LEG_NORTH % 2 == map / LEG_EAST % 2
+    (map < FIRST_UNNAMED) & stands(map, KIND) & (stands(map, LEG_NORTH) == stands(map, LEG_EAST))
 }
 
 // The byte count of the fields that stand in a map.
 pub fn fields_size(map: u64) -> usize
     ensures { (result ≡ size_of spec.call_fields map) × (result ≤ 82) }
 {
-    let kind = (map % 2) as usize;
-    let regime = (map / 2 % 2) as usize;
-    kind + regime + 4 * count(map / FIRST_NUMBER % ALL_NUMBERS)
+    usize::from(stands(map, KIND))
+        + usize::from(stands(map, REGIME))
+        + 4 * count(map / FIRST_NUMBER % ALL_NUMBERS)
 }
 
-// A field of one byte that was read or is missing, and where the next one starts.
+fn regime_of(byte: u8) -> Option<FlightRegime>
+    ensures { result ≡ regime_from byte }
+{
+    match byte {
+        0 => Some(FlightRegime::Copter),
+        1 => Some(FlightRegime::Plane),
+        _ => None,
+    }
+}
+
+// The regime of a record, whose byte is missing where it is plane.
+fn read_regime(bytes: &[u8], map: u64) -> Option<FlightRegime>
+    requires { 5 + map / 2 % 2 ≤ length bytes.now }
+    ensures { result ≡ regime_from (regime_at bytes.now map) }
+{
+    if stands(map, REGIME) {
+        regime_of(bytes[5])
+    } else {
+        Some(FlightRegime::Plane)
+    }
+}
+
+// What a record says besides its numbers, the place of these, and the place after the record.
 #[derive(Clone, Copy)]
-pub struct ByteRead {
-    pub value: u64,
-    pub rest: Cursor,
+struct Head {
+    map: u64,
+    kind: Kind,
+    regime: FlightRegime,
+    numbers: usize,
+    next: usize,
 }
 
-// Reads a field of one byte whose bit stands, or gives what missing means.
-fn read_byte(s: &[u8], from: Cursor, stands: u64, missing: u64) -> ByteRead
-    requires { from.at + stands % 2 ≤ length s.now }
-    ensures { result ≡ byte_at s.now from.at stands missing }
+// Reads all of a record but its numbers.
+#[inline(always)]
+fn read_head(s: &[u8], at: usize) -> Result<Head, Refusal>
+    ensures { MatchResult result
+        (λ h. (spec.read_call s.now at ≡ Ok (call_from s.now h)) × (place_after h.numbers 20 (h.map / 4) ≤ length s.now))
+        (λ e. spec.read_call s.now at ≡ Err e) }
 {
-    if stands % 2 == 1 {
-        let at = from.at;
-        let value = read_number(&s[at..], 1);
-        return ByteRead {
-            value,
-            rest: Cursor { at: at + 1 },
-        };
+    let start = bytes_from(s, at, 4)?;
+    let map = u64::from(read_word(start));
+    if !is_complete(map) {
+        return Err(Refusal::UnknownMap);
     }
-    ByteRead {
-        value: missing,
-        rest: from,
-    }
-}
-
-fn regime_of(byte: u64) -> FlightRegime
-    ensures { result ≡ spec.regime_of byte }
-{
-    if byte == 0 {
-        FlightRegime::Copter
-    } else {
-        FlightRegime::Plane
-    }
-}
-
-// A number that is none where its bit, the lowest of map, does not stand.
-fn option_of(map: u64, x: f32) -> OptionF32
-    ensures { result ≡ spec.option_of map x }
-{
-    if map % 2 == 1 {
-        OptionF32::Some(x)
-    } else {
-        OptionF32::None
-    }
-}
-
-fn leg_of(map: u64, x: f32, y: f32) -> OptionVec2
-    ensures { result ≡ spec.leg_of map x y }
-{
-    if map % 2 == 1 {
-        OptionVec2::Some(Vec2 { x, y })
-    } else {
-        OptionVec2::None
-    }
+    let size = 4 + fields_size(map);
+    let record = bytes_from(s, at, size)?;
+    let kind = Kind::from_number(u32::from(record[4])).ok_or(Refusal::UnknownKind)?;
+    let regime = read_regime(record, map).ok_or(Refusal::UnknownKind)?;
+    Ok(Head {
+        map,
+        kind,
+        regime,
+        numbers: at + 5 + usize::from(stands(map, REGIME)),
+        next: at + size,
+    })
 }
 
 // Bits 7 to 12.
+#[tactic(auto, unfolding(crate::specs::Call::waypoint_at, crate::specs::Call::leg_of))]
 fn waypoint_of(map: u64, v: [f32; 20]) -> WaypointCommand
     ensures { result ≡ spec.waypoint_at map v }
 {
-    let velocity_mps = leg_of(map / LEG_NORTH, v[7], v[8]);
     WaypointCommand {
         position_m: Vec2 { x: v[5], y: v[6] },
-        velocity_mps,
+        velocity_mps: stands(map, LEG_NORTH).then_some(Vec2 { x: v[7], y: v[8] }),
         altitude_m: v[9],
         cruise_speed_mps: v[10],
     }
 }
 
 // Bits 13 to 20.
+#[tactic(auto, unfolding(crate::specs::Call::state_at, crate::specs::Call::option_of))]
 fn state_of(map: u64, v: [f32; 20]) -> VehicleState
     ensures { result ≡ spec.state_at map v }
 {
-    let airspeed_mps = option_of(map / AIRSPEED, v[18]);
     VehicleState {
         position_m: Vec3 {
             x: v[11],
@@ -190,99 +226,80 @@ fn state_of(map: u64, v: [f32; 20]) -> VehicleState
             z: v[16],
         },
         roll_rad: v[17],
-        airspeed_mps,
+        airspeed_mps: stands(map, AIRSPEED).then_some(v[18]),
     }
 }
 
-// The call of a kind from 0 to 6; v has the numbers of bits 2 to 21.
-fn call_at(kind: u64, regime: FlightRegime, map: u64, v: [f32; 20]) -> Call
-    ensures { result ≡ spec.call_at kind regime map v }
-{
-    let dt = v[0];
-    if kind == 0 {
-        return Call::Prime;
-    }
-    if kind == 1 {
-        return Call::Attitude {
-            regime,
-            dt,
-            command: AttitudeCommand {
-                throttle: v[3],
-                roll: v[1],
-                pitch: v[2],
+impl Head {
+    // The call; v has the numbers of bits 2 to 21.
+    #[tactic(auto, unfolding(crate::specs::Call::call_at, crate::specs::Call::attitude_at, crate::specs::Call::rate_at, crate::specs::Call::absolute_attitude_at, crate::specs::Call::absolute_rate_at, crate::specs::Call::option_of))]
+    fn call(self, v: [f32; 20]) -> Call
+        ensures { result ≡ spec.call_at (spec.number_of self.kind) self.regime self.map v }
+    {
+        let regime = self.regime;
+        let dt = v[0];
+        match self.kind {
+            Kind::Prime => Call::Prime,
+            Kind::Attitude => Call::Attitude {
+                regime,
+                dt,
+                command: AttitudeCommand {
+                    throttle: v[3],
+                    roll: v[1],
+                    pitch: v[2],
+                },
             },
-        };
-    }
-    if kind == 2 {
-        return Call::Rate {
-            regime,
-            dt,
-            command: RateCommand {
-                throttle: v[4],
-                roll_rate: v[1],
-                pitch_rate: v[2],
-                yaw_rate: v[3],
+            Kind::Rate => Call::Rate {
+                regime,
+                dt,
+                command: RateCommand {
+                    throttle: v[4],
+                    roll_rate: v[1],
+                    pitch_rate: v[2],
+                    yaw_rate: v[3],
+                },
             },
-        };
-    }
-    if kind == 3 {
-        let command = waypoint_of(map, v);
-        let state = state_of(map, v);
-        let cap = option_of(map / CAP, v[19]);
-        return Call::Waypoint {
-            regime,
-            dt,
-            command,
-            state,
-            cap,
-        };
-    }
-    if kind == 4 {
-        return Call::AbsoluteAttitude {
-            regime,
-            dt,
-            command: AbsoluteAttitudeCommand {
-                roll_rad: v[1],
-                pitch_rad: v[2],
-                thrust: v[3],
+            Kind::Waypoint => Call::Waypoint {
+                regime,
+                dt,
+                command: waypoint_of(self.map, v),
+                state: state_of(self.map, v),
+                cap: stands(self.map, CAP).then_some(v[19]),
             },
-        };
-    }
-    if kind == 5 {
-        return Call::Land { regime, dt };
-    }
-    Call::AbsoluteRate {
-        regime,
-        dt,
-        command: AbsoluteRateCommand {
-            roll_radps: v[1],
-            pitch_radps: v[2],
-            yaw_radps: v[3],
-            thrust: v[4],
-        },
+            Kind::AbsoluteAttitude => Call::AbsoluteAttitude {
+                regime,
+                dt,
+                command: AbsoluteAttitudeCommand {
+                    roll_rad: v[1],
+                    pitch_rad: v[2],
+                    thrust: v[3],
+                },
+            },
+            Kind::Land => Call::Land { regime, dt },
+            Kind::AbsoluteRate => Call::AbsoluteRate {
+                regime,
+                dt,
+                command: AbsoluteRateCommand {
+                    roll_radps: v[1],
+                    pitch_radps: v[2],
+                    yaw_radps: v[3],
+                    thrust: v[4],
+                },
+            },
+        }
     }
 }
 
 // As a rule a call that is no waypoint has no number after bit 6, and a prime or a land none after bit 2: fewer bits to
 // test and fewer numbers to make.
 
-// Reads the number of bit 2, where none after it stands.
-fn read_step(s: &[u8], from: Cursor, map: u64) -> [f32; 20]
-    requires { (map < 2) × (from.at + 4 * ones 20 map ≤ length s.now) }
-    ensures { result ≡ floats_of (values_at (number_fields (replicate 20 0)) map (drop from.at s.now)) }
+// Reads the first numbers of bits 2 to 21, where none after them stands.
+fn read_first<const N: usize>(s: &[u8], from: usize, map: u64) -> [f32; 20]
+    requires { (N ≤ 20) × (map < 2 ^ N) × (place_after from 20 map ≤ length s.now) }
+    ensures { result ≡ floats_at s.now from map }
 {
     let mut v = [0.0f32; 20];
-    read_floats(s, from, map, &mut v[..1]);
-    v
-}
-
-// Reads the numbers of bits 2 to 6, where none after them stands.
-fn read_command(s: &[u8], from: Cursor, map: u64) -> [f32; 20]
-    requires { (map < 32) × (from.at + 4 * ones 20 map ≤ length s.now) }
-    ensures { result ≡ floats_of (values_at (number_fields (replicate 20 0)) map (drop from.at s.now)) }
-{
-    let mut v = [0.0f32; 20];
-    read_floats(s, from, map, &mut v[..5]);
+    read_values(s, from, map, &mut v[..N]);
     v
 }
 
@@ -306,92 +323,48 @@ const WHOLE_NINE: u64 = (1 << 9) - 1;
 
 // Reads the numbers of bits 2 to 21 by groups, which as a rule stand whole: the command's, point, leg, altitude to roll, and
 // the two that may be absent.
-fn read_waypoint(s: &[u8], from: Cursor, map: u64) -> [f32; 20]
-    requires { from.at + 4 * ones 20 map ≤ length s.now }
-    ensures { result ≡ floats_of (values_at (number_fields (replicate 20 0)) map (drop from.at s.now)) }
+fn read_waypoint(s: &[u8], from: usize, map: u64) -> [f32; 20]
+    requires { place_after from 20 map ≤ length s.now }
+    ensures { result ≡ floats_at s.now from map }
 {
     let mut v = [0.0f32; 20];
-    let second = read_floats(s, from, map % 32, &mut v[..5]);
+    let second = read_values(s, from, map % 32, &mut v[..5]);
     let third = read_group(s, second, map / POINT % PAIR, WHOLE_PAIR, &mut v[5..7]);
     let fourth = read_group(s, third, map / LEG % PAIR, WHOLE_PAIR, &mut v[7..9]);
     let fifth = read_group(s, fourth, map / ALTITUDE % NINE, WHOLE_NINE, &mut v[9..18]);
-    read_floats(s, fifth, map / OPTIONAL % PAIR, &mut v[18..20]);
+    read_values(s, fifth, map / OPTIONAL % PAIR, &mut v[18..20]);
     v
 }
 
 // Reads the numbers of bits 2 to 21; map has them from its lowest bit on.
-fn read_numbers(s: &[u8], from: Cursor, map: u64) -> [f32; 20]
-    requires { from.at + 4 * ones 20 map ≤ length s.now }
-    ensures { result ≡ floats_of (values_at (number_fields (replicate 20 0)) map (drop from.at s.now)) }
+fn read_numbers(s: &[u8], from: usize, map: u64) -> [f32; 20]
+    requires { place_after from 20 map ≤ length s.now }
+    ensures { result ≡ floats_at s.now from map }
 {
     if map < 2 {
-        return read_step(s, from, map);
+        return read_first::<1>(s, from, map);
     }
     if map < 32 {
-        return read_command(s, from, map);
+        return read_first::<5>(s, from, map);
     }
     read_waypoint(s, from, map)
 }
 
-pub fn read_call(s: &[u8], at: usize) -> ReadCall
+pub fn read_call(s: &[u8], at: usize) -> Result<ReadCall, Refusal>
     ensures { result ≡ spec.read_call s.now at }
 {
-    if s.len() < at {
-        return ReadCall::Refused(5);
-    }
-    if s.len() - at < 4 {
-        return ReadCall::Refused(5);
-    }
-    let map = read_number(&s[at..], 4);
-    if !is_complete(map) {
-        return ReadCall::Refused(6);
-    }
-    let size = 4 + fields_size(map);
-    if s.len() - at < size {
-        return ReadCall::Refused(5);
-    }
-    let kind = read_byte(s, Cursor { at: at + 4 }, map, 0);
-    let regime = read_byte(s, kind.rest, map / 2, 1);
-    if 6 < kind.value {
-        return ReadCall::Refused(7);
-    }
-    if 1 < regime.value {
-        return ReadCall::Refused(7);
-    }
-    let v = read_numbers(s, regime.rest, map / FIRST_NUMBER);
-    let call = call_at(kind.value, regime_of(regime.value), map, v);
-    ReadCall::Read {
-        call,
-        next: at + size,
-    }
+    let head = read_head(s, at)?;
+    let v = read_numbers(s, head.numbers, head.map / FIRST_NUMBER);
+    Ok(ReadCall {
+        call: head.call(v),
+        next: head.next,
+    })
 }
 
 // `read_call` without the numbers, for whoever goes over a recording before it is replayed. A function of its own, so that the reader of
 // such a program is called from one place and stays in line.
-pub fn skip_call(s: &[u8], at: usize) -> Skipped
+pub fn skip_call(s: &[u8], at: usize) -> Result<usize, Refusal>
     ensures { result ≡ spec.skipped (spec.read_call s.now at) }
 {
-    if s.len() < at {
-        return Skipped::Refused(5);
-    }
-    if s.len() - at < 4 {
-        return Skipped::Refused(5);
-    }
-    let map = read_number(&s[at..], 4);
-    if !is_complete(map) {
-        return Skipped::Refused(6);
-    }
-    let bytes = 4 + fields_size(map);
-    if s.len() - at < bytes {
-        return Skipped::Refused(5);
-    }
-    let first = read_byte(s, Cursor { at: at + 4 }, map, 0);
-    let second = read_byte(s, first.rest, map / 2, 1);
-    if 6 < first.value {
-        return Skipped::Refused(7);
-    }
-    if 1 < second.value {
-        return Skipped::Refused(7);
-    }
-    Skipped::Next(at + bytes)
+    Ok(read_head(s, at)?.next)
 }

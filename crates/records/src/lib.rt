@@ -4,3 +4,4 @@
 pub mod call;
 pub mod call_writer;
 pub mod config;
+pub mod part;

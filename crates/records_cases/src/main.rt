@@ -2,163 +2,86 @@
 // gives for the same entries: tools/vectors/records.py makes both files and says what an entry is.
 #![tactic(auto)]
 
-ghost use Rattle.std.specs.Prelude.{◌≤◌};
-
-use fields::Written;
-use laws::config::PlaneGuidanceConfig;
-use records::call::{Call, ReadCall, read_call};
+use case_rows::read_full;
+use records::call::read_call;
 use records::call_writer::write_call;
-use records::config::{ReadConfig, read_config, write_config};
-use std::io::{ErrorKind, Read, Write};
+use records::config::{read_config, write_config};
+use refusals::Refusal;
+use std::io::Read;
 use std::{fs, io};
 
 // What stands in a buffer before a record is written.
 const FILL: u8 = 165;
 
 // A place of an entry; 255 is the largest one.
-fn place_of(b: u8) -> usize {
-    if b == 255 {
-        return 0xffff_ffff_ffff_ffff;
-    }
-    wide(b)
+fn place(b: u8) -> usize {
+    if b == 255 { usize::MAX } else { usize::from(b) }
 }
 
-// A byte as a number.
-fn wide(b: u8) -> usize
-    ensures { result ≤ 255 }
-{
-    b as usize
-}
-
-// The digit of the lower half of a byte.
-fn digit(b: u8) -> u8 {
-    let n = b % 16;
-    if n < 10 { 48 + n } else { 87 + n }
-}
-
-fn print_hex<R: Print>(rt: &R, s: &[u8]) -> io::Result<()> {
-    let mut i = 0;
-    while i < s.len() {
-        let b = s[i];
-        let pair = [digit(b / 16), digit(b)];
-        io::writer(rt).write_all(&pair)?;
-        i += 1;
+fn print_hex<R: Print>(rt: &R, bytes: &[u8]) -> io::Result<()> {
+    for b in bytes {
+        print!(rt; "{b:02x}")?;
     }
     Ok(())
 }
 
-fn print_refused<R: Print>(rt: &R, r: u8) -> io::Result<()> {
-    print!(rt; " refused {r}")
-}
-
-fn print_read<R: Print>(rt: &R, next: usize) -> io::Result<()> {
-    print!(rt; " read {next}")
-}
-
-fn print_written<R: Print>(rt: &R, w: Written) -> io::Result<()> {
-    match w {
-        Written::Next(n) => print!(rt; " wrote {n}")?,
-        Written::Refused(r) => print_refused(rt, r)?,
-    }
-    print!(rt; " ")
-}
-
-fn put_call<R: Print>(rt: &R, out: &mut [u8], to: usize, call: Call) -> io::Result<()> {
-    print_written(rt, write_call(out, to, call))?;
-    print_hex(rt, out)
-}
-
-fn put_config<R: Print>(
+// Reads a record from a place on, writes what was read, and prints what the reader and the writer answer, and the buffer.
+fn try_record<
+    R: Print,
+    T: Copy,
+    Reads: Fn(&[u8], usize) -> Result<(T, usize), Refusal>,
+    Writes: Fn(&mut [u8], usize, T) -> Result<usize, Refusal>,
+>(
     rt: &R,
+    s: &[u8],
+    from: usize,
     out: &mut [u8],
     to: usize,
-    config: PlaneGuidanceConfig,
-) -> io::Result<()> {
-    print_written(rt, write_config(out, to, config))?;
-    print_hex(rt, out)
-}
-
-// What is tried of an entry: n bytes of s are read from a place, and what they give is written into room bytes of out.
-#[derive(Clone, Copy)]
-struct Entry {
-    from: usize,
-    to: usize,
-    n: usize,
-    room: usize,
-}
-
-fn try_call<R: Print>(rt: &R, e: Entry, s: &[u8], out: &mut [u8]) -> io::Result<()> {
-    let n = e.n;
-    let room = e.room;
-    if s.len() < n {
-        return Ok(());
-    }
-    if out.len() < room {
-        return Ok(());
-    }
-    let r = read_call(&s[..n], e.from);
-    match r {
-        ReadCall::Refused(number) => print_refused(rt, number),
-        ReadCall::Read { call, next } => {
-            print_read(rt, next)?;
-            put_call(rt, &mut out[..room], e.to, call)
+    read: Reads,
+    write: Writes,
+) -> io::Result<()>
+    requires reads { Reads.IsAlwaysCallable read }
+    requires writes { Writes.IsAlwaysCallable write }
+{
+    match read(s, from) {
+        Err(why) => print!(rt; " refused {}", why.number()),
+        Ok((record, next)) => {
+            print!(rt; " read {next}")?;
+            match write(out, to, record) {
+                Ok(next) => print!(rt; " wrote {next} ")?,
+                Err(why) => print!(rt; " refused {} ", why.number())?,
+            }
+            print_hex(rt, out)
         }
     }
 }
 
-fn try_config<R: Print>(rt: &R, e: Entry, s: &[u8], out: &mut [u8]) -> io::Result<()> {
-    let n = e.n;
-    let room = e.room;
-    if s.len() < n {
-        return Ok(());
-    }
-    if out.len() < room {
-        return Ok(());
-    }
-    let r = read_config(&s[..n], e.from);
-    match r {
-        ReadConfig::Refused(number) => print_refused(rt, number),
-        ReadConfig::Read { config, next } => {
-            print_read(rt, next)?;
-            put_config(rt, &mut out[..room], e.to, config)
-        }
-    }
-}
-
-// Reads n bytes; false where the file has fewer.
-fn read_bytes<F: Read>(file: &mut F, room: &mut [u8], n: usize) -> io::Result<bool> {
-    if room.len() < n {
-        return Ok(false);
-    }
-    match file.read_exact(&mut room[..n]) {
-        Ok(()) => Ok(true),
-        Err(e) if e.kind() == ErrorKind::UnexpectedEof => Ok(false),
-        Err(e) => Err(e),
-    }
+// Fills the room; false where the file has fewer bytes.
+fn fill<F: Read>(file: &mut F, room: &mut [u8]) -> io::Result<bool> {
+    Ok(read_full(file, room)? == room.len())
 }
 
 // Reads an entry and tries it; false where the file has no whole one left.
-fn try_entry<R: Print, F: Read>(rt: &R, file: &mut F, number: u64) -> io::Result<bool> {
+fn try_entry<R: Print, F: Read>(rt: &R, file: &mut F, number: u32) -> io::Result<bool> {
     let mut head = [0u8; 5];
+    if !fill(file, &mut head)? {
+        return Ok(false);
+    }
+    let [kind, from, to, room, n] = head;
     let mut s = [0u8; 256];
+    let s = &mut s[..usize::from(n)];
+    if !fill(file, s)? {
+        return Ok(false);
+    }
     let mut out = [FILL; 256];
-    if !read_bytes(file, &mut head, 5)? {
-        return Ok(false);
-    }
-    let e = Entry {
-        from: place_of(head[1]),
-        to: place_of(head[2]),
-        n: wide(head[4]),
-        room: wide(head[3]),
-    };
-    if !read_bytes(file, &mut s, e.n)? {
-        return Ok(false);
-    }
+    let out = &mut out[..usize::from(room)];
     print!(rt; "{number}")?;
-    if head[0] == 0 {
-        try_call(rt, e, &s, &mut out)?;
+    if kind == 0 {
+        let read = |s: &[u8], at: usize| read_call(s, at).map(|read| (read.call, read.next));
+        try_record(rt, s, place(from), out, place(to), read, write_call)?;
     } else {
-        try_config(rt, e, &s, &mut out)?;
+        let read = |s: &[u8], at: usize| read_config(s, at).map(|read| (read.config, read.next));
+        try_record(rt, s, place(from), out, place(to), read, write_config)?;
     }
     println!(rt)?;
     Ok(true)
@@ -173,9 +96,11 @@ fn main(rt: HostRuntime) -> io::Result<()> {
             return Ok(());
         }
     };
-    let mut number: u64 = 1;
-    while number < 100000 && try_entry(&rt, &mut file, number)? {
-        number += 1;
+    // A proved loop has to end: the entries are fewer.
+    for number in 1..100_000 {
+        if !try_entry(&rt, &mut file, number)? {
+            break;
+        }
     }
     Ok(())
 }

@@ -8,15 +8,15 @@ use borrow.Author.Tests.{lt-leb, leb-true, leb-false}
 use lib.Dec.{leb}
 use lib.ListN.{length, drop, take}
 use lib.Seq.{take_all, take-take, length-take-le, take-append-le}
+use Rattle.std.specs.Prelude.{Result, Ok, Err}
+use Rattle.refusals.specs.declared.Refusal.{Refusal}
 use Rattle.fields.specs.Bytes.{number_at}
 use Rattle.fields.specs.Fields.{size_of}
 use Rattle.fields.proofs.Window.{drop_take}
 use Rattle.records.specs.Config.{config_fields, read_config}
 use Rattle.records.specs.Call.{call_fields, read_call}
 use Rattle.records.specs.declared.call.ReadCall.{ReadCall}
-use Rattle.records.specs.declared.call.ReadCall.TheVariants as read
 use Rattle.records.specs.declared.config.ReadConfig.{ReadConfig}
-use Rattle.records.specs.declared.config.ReadConfig.TheVariants as config
 use Rattle.replay.specs.Sizes.{decisive}
 use Rattle.replay.specs.Recording.{no_calls, with_call, on_read, on_config, read_calls, recording, ends}
 use Rattle.replay.specs.Text.{recording_text}
@@ -56,12 +56,12 @@ module _ (n : ℕ) (s : List ℕ) where
       Later : Type 0
       Later = (next : ℕ) → next + 86 * k < n → read_calls k (take n s) next ≡ read_calls k s next
 
-      onward : at < length s → Later → (r : ReadCall) → read_call s at ≡ r
+      onward : at < length s → Later → (r : Result ReadCall Refusal) → read_call s at ≡ r
           → on_read at r (λ (next : ℕ). read_calls k (take n s) next) ≡ on_read at r (λ (next : ℕ). read_calls k s next)
-      onward l later (read.Refused r) q = refl
-      onward l later (read.Read c next) q =
-          let within : next ≡ at + (4 + size_of call_fields (number_at 4 (drop at s))) = (call_within s at c next q).0 in
-          ap (with_call (record { place = at; call = c })) (later next (omega (arith, call_most (number_at 4 (drop at s)))))
+      onward l later (Err why) q = refl
+      onward l later (Ok r) q =
+          let within : r.next ≡ at + (4 + size_of call_fields (number_at 4 (drop at s))) = (call_within s at r q).0 in
+          ap (with_call (record { place = at; call = r.call })) (later r.next (omega (arith, call_most (number_at 4 (drop at s)))))
 
       go : (b : Bool) → leb (length s) at ≡ b → Later
           → cond b (no_calls ends) (on_read at (read_call (take n s) at) (λ (next : ℕ). read_calls k (take n s) next))
@@ -77,11 +77,11 @@ recording_cut s =
     rw (config_same 137 (take decisive s) s (take-take 137 decisive s (omega arith))
     (omega (arith, config_most (number_at 5 (take decisive s))))) (go (read_config s 0) refl)
   where
-    go : (r : ReadConfig) → read_config s 0 ≡ r → on_config (take decisive s) r ≡ on_config s r
-    go (config.Refused r) e = refl
-    go (config.Read c next) e =
-        let within : next ≡ 5 + size_of config_fields (number_at 5 s) = (config_within s c next e).0 in
-        rw (calls_cut decisive s 4096 next (omega (arith, config_most (number_at 5 s))))
+    go : (r : Result ReadConfig Refusal) → read_config s 0 ≡ r → on_config (take decisive s) r ≡ on_config s r
+    go (Err why) e = refl
+    go (Ok r) e =
+        let within : r.next ≡ 5 + size_of config_fields (number_at 5 s) = (config_within s r e).0 in
+        rw (calls_cut decisive s 4096 r.next (omega (arith, config_most (number_at 5 s))))
 
 -- "decides every input"
 pub text_cut : (s : List ℕ) → recording_text (take decisive s) ≡ recording_text s

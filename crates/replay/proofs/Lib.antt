@@ -1,5 +1,6 @@
 -- Laws of the replay.
+pub mod RunLaw
 pub mod PrintLaw
-pub mod CallsLaw
+pub mod TextLaw
 pub mod Window
 pub mod Cut

@@ -1,7 +1,9 @@
 -- The text of a recording: "it prints a line a call". Definitions only.
-use Rattle.std.specs.Prelude.{cond, List, [], ◌∷◌, ◌++◌, ℕ, ◌+◌, eqb, length, Float}
+use Rattle.std.specs.Prelude.{cond, List, [], ◌∷◌, ◌++◌, ℕ, ◌+◌, eqb, length, Float, Option, Some, None, Result, Ok, Err}
 use Rattle.std.specs.Float.{binary32}
 use Rattle.std.specs.Float.Ieee.{to_bits}
+use Rattle.refusals.specs.Numbers.{number}
+use Rattle.refusals.specs.declared.Refusal.{Refusal}
 use Rattle.laws.specs.Config.{validate}
 use Rattle.laws.specs.declared.types.Setpoint.{Setpoint}
 use Rattle.laws.specs.declared.types.Setpoint.TheVariants as Set
@@ -17,45 +19,43 @@ use Rattle.guidance.specs.declared.plane.Answer.{Answer}
 use Rattle.guidance.specs.declared.plane.Answer.TheVariants as Answered
 use Rattle.calls.specs.Calls.{call_of}
 use Rattle.lines.specs.declared.Line.{Line}
+use Rattle.lines.specs.declared.Values.{Values}
+use Rattle.lines.specs.declared.Values.TheVariants as values
 use Rattle.lines.specs.declared.Word.{Word}
 use Rattle.lines.specs.declared.Word.TheVariants as word
 use Rattle.lines.specs.Line.{text}
 use Rattle.replay.specs.Recording.{Recorded, Calls, Ending, ends, stops, Recording, bad_config, recorded, recording}
 
--- ---- the forms of a line; number 0 is the configuration
+-- ---- the forms of a line; a line of no call is the configuration's
 
-abbrev pub number_line : ℕ → Word → ℕ → Line
-number_line n w r = record { number = n; first = w; second = word.None; refusal = r; values = 0 ∷ 0 ∷ 0 ∷ 0 ∷ []; count = 0 }
+abbrev pub number_line : Option ℕ → Word → Option ℕ → Line
+number_line call w r = record { call = call; first = w; second = None; refusal = r; values = values.None }
 
 -- `n refused R`, `config refused F`
-unfoldable pub refused_line : ℕ → ℕ → Line
-refused_line n r = number_line n word.Refused r
+abbrev pub refused_line : Option ℕ → ℕ → Line
+refused_line call r = number_line call word.Refused (Some r)
 
 -- `n stopped R`, `config stopped R`
-unfoldable pub stopped_line : ℕ → ℕ → Line
-stopped_line n r = number_line n word.Stopped r
+abbrev pub stopped_line : Option ℕ → ℕ → Line
+stopped_line call r = number_line call word.Stopped (Some r)
 
 -- `n prime`
-unfoldable pub prime_line : ℕ → Line
-prime_line n = number_line n word.Prime 0
+abbrev pub prime_line : ℕ → Line
+prime_line n = number_line (Some n) word.Prime None
 
 -- a number's bits; nan's are 7fc00000
 abbrev pub bits : Float → ℕ
 bits x = to_bits binary32 x
 
--- roll, pitch, thrust; or roll, pitch, yaw, thrust
-unfoldable pub setpoint_line : ℕ → Word → Word → Setpoint → Line
-setpoint_line n a b (Set.Plane roll pitch thrust) =
-    record { number = n; first = a; second = b; refusal = 0; values = bits roll ∷ bits pitch ∷ bits thrust ∷ 0 ∷ []; count = 3 }
-setpoint_line n a b (Set.PlaneRate roll pitch yaw thrust) =
-    record { number = n; first = a; second = b; refusal = 0; values = bits roll ∷ bits pitch ∷ bits yaw ∷ bits thrust ∷ []; count = 4 }
+-- A setpoint's numbers. A waypoint has the distance off the line behind them (document 02, K6); no waypoint answers a rate setpoint.
+unfoldable pub setpoint_values : Setpoint → Option Float → Values
+setpoint_values (Set.Plane roll pitch thrust) None = values.Three (bits roll ∷ bits pitch ∷ bits thrust ∷ [])
+setpoint_values (Set.Plane roll pitch thrust) (Some off) = values.Four (bits roll ∷ bits pitch ∷ bits thrust ∷ bits off ∷ [])
+setpoint_values (Set.PlaneRate roll pitch yaw thrust) off = values.Four (bits roll ∷ bits pitch ∷ bits yaw ∷ bits thrust ∷ [])
 
--- a waypoint's: roll, pitch, thrust, and the distance off the line (document 02, K6); no waypoint answers a rate setpoint
-unfoldable pub waypoint_line : ℕ → Word → Word → Setpoint → Float → Line
-waypoint_line n a b (Set.Plane roll pitch thrust) off =
-    record { number = n; first = a; second = b; refusal = 0; values = bits roll ∷ bits pitch ∷ bits thrust ∷ bits off ∷ []; count = 4 }
-waypoint_line n a b (Set.PlaneRate roll pitch yaw thrust) off =
-    record { number = n; first = a; second = b; refusal = 0; values = bits roll ∷ bits pitch ∷ bits yaw ∷ bits thrust ∷ []; count = 4 }
+-- one word or two, and a setpoint's numbers
+abbrev pub setpoint_line : ℕ → Word → Option Word → Values → Line
+setpoint_line n a b vs = record { call = Some n; first = a; second = b; refusal = None; values = vs }
 
 abbrev pub kind_word : Setpoint → Word
 kind_word (Set.Plane roll pitch thrust) = word.Plane
@@ -72,18 +72,18 @@ vertical_word Vertical.Hold = word.Hold
 vertical_word Vertical.Fallback = word.Fallback
 
 -- "law names or setpoint kind"
-unfoldable pub answer_line : ℕ → Answer → Line
-answer_line n (Answered.Refused r) = refused_line n r
-answer_line n (Answered.Commanded s) = setpoint_line n (kind_word s) word.None s
-answer_line n (Answered.Waypoint a) =
-    waypoint_line n (lateral_word a.laws.lateral) (vertical_word a.laws.vertical) a.setpoint a.cross_track_m
+unfoldable pub answer_line : ℕ → Result Answer Refusal → Line
+answer_line n (Err why) = refused_line (Some n) (number why)
+answer_line n (Ok (Answered.Commanded s)) = setpoint_line n (kind_word s) None (setpoint_values s None)
+answer_line n (Ok (Answered.Waypoint a)) =
+    setpoint_line n (lateral_word a.laws.lateral) (Some (vertical_word a.laws.vertical)) (setpoint_values a.setpoint (Some a.cross_track_m))
 
 -- no record of a recording's calls sets a configuration or takes one back, so no reply is a field or 14
 unfoldable pub reply_line : ℕ → Reply → Line
 reply_line n (guidance.answered a) = answer_line n a
 reply_line n guidance.done = prime_line n
-reply_line n (guidance.field f) = refused_line n f
-reply_line n (guidance.back r) = refused_line n r
+reply_line n (guidance.field f) = refused_line (Some n) f
+reply_line n (guidance.back r) = refused_line (Some n) r
 
 -- ---- the lines of a list of calls
 
@@ -96,7 +96,7 @@ call_lines n g (k ∷ ks) =
 
 abbrev pub ending_lines : ℕ → Ending → List Line
 ending_lines n ends = []
-ending_lines n (stops r) = stopped_line n r ∷ []
+ending_lines n (stops why) = stopped_line (Some n) (number why) ∷ []
 
 unfoldable pub run_lines : ℕ → PlaneGuidance → Calls → List Line
 run_lines n g c = call_lines n g c.calls ++ ending_lines (n + length c.calls) c.ending
@@ -104,8 +104,8 @@ run_lines n g c = call_lines n g c.calls ++ ending_lines (n + length c.calls) c.
 -- ---- the text of a recording
 
 unfoldable pub recording_lines : Recording → List Line
-recording_lines (bad_config r) = stopped_line 0 r ∷ []
-recording_lines (recorded c calls) = cond (eqb (validate c) 0) (run_lines 1 (fresh c) calls) (refused_line 0 (validate c) ∷ [])
+recording_lines (bad_config why) = stopped_line None (number why) ∷ []
+recording_lines (recorded c calls) = cond (eqb (validate c) 0) (run_lines 1 (fresh c) calls) (refused_line None (validate c) ∷ [])
 
 unfoldable pub lines_text : List Line → List ℕ
 lines_text [] = []

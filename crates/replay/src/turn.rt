@@ -1,5 +1,6 @@
 // What a recorded call does, and its line.
 ghost use Rattle.std.specs.Prelude.{◌≡◌};
+ghost use Rattle.refusals.specs.Numbers.{number};
 ghost use Rattle.replay.specs.Text as spec;
 ghost use Rattle.calls.specs.Calls.{as_reply};
 ghost use Rattle.replay.specs.Code.Performed.{call_line};
@@ -7,9 +8,11 @@ ghost use Rattle.replay.specs.Code.Performed.{call_line};
 use calls::Reply;
 use fields::bytes::to_bits;
 use guidance::plane::{Answer, LateralLaw, PlaneGuidance, VerticalLaw};
+use laws::config::InvalidConfig;
 use laws::types::Setpoint;
-use lines::{Line, Word};
+use lines::{Line, Values, Word};
 use records::call::Call;
+use refusals::Refusal;
 
 #[derive(Clone, Copy)]
 pub struct CallLine {
@@ -17,121 +20,78 @@ pub struct CallLine {
     pub guidance: PlaneGuidance,
 }
 
-// A line of a word and a refusal's number, 0 for none.
-fn number_line(number: u32, first: Word, refusal: u32) -> Line
-    ensures { result ≡ spec.number_line number first refusal }
+// A line of a word and a refusal's number, where there is one.
+fn number_line(call: Option<u32>, first: Word, refusal: Option<u32>) -> Line
+    ensures { result ≡ spec.number_line call first refusal }
 {
     Line {
-        number,
+        call,
         first,
-        second: Word::None,
+        second: None,
         refusal,
-        values: [0, 0, 0, 0],
-        count: 0,
+        values: Values::None,
     }
 }
 
-pub fn refused_line(number: u32, refusal: u32) -> Line
-    ensures { result ≡ spec.refused_line number refusal }
+// A call that is refused.
+pub fn refused_line(call: Option<u32>, why: Refusal) -> Line
+    ensures { result ≡ spec.refused_line call (number why) }
 {
-    number_line(number, Word::Refused, refusal)
+    number_line(call, Word::Refused, Some(why.number()))
 }
 
-pub fn stopped_line(number: u32, refusal: u32) -> Line
-    ensures { result ≡ spec.stopped_line number refusal }
+// A configuration that is refused, with its failing field.
+pub fn invalid_line(invalid: InvalidConfig) -> Line
+    ensures { result ≡ spec.refused_line None invalid.field }
 {
-    number_line(number, Word::Stopped, refusal)
+    number_line(None, Word::Refused, Some(invalid.field))
+}
+
+// A record that is refused: a call's, or the configuration's.
+pub fn stopped_line(call: Option<u32>, why: Refusal) -> Line
+    ensures { result ≡ spec.stopped_line call (number why) }
+{
+    number_line(call, Word::Stopped, Some(why.number()))
 }
 
 fn prime_line(number: u32) -> Line
     ensures { result ≡ spec.prime_line number }
 {
-    number_line(number, Word::Prime, 0)
+    number_line(Some(number), Word::Prime, None)
 }
 
-fn setpoint_line(number: u32, first: Word, second: Word, setpoint: Setpoint) -> Line
-    ensures { result ≡ spec.setpoint_line number first second setpoint }
+// The setpoint's numbers, and of a waypoint the distance off the line.
+#[tactic(auto, unfolding(crate::specs::Text::setpoint_values))]
+fn setpoint_values(setpoint: Setpoint, cross_track_m: Option<f32>) -> Values
+    ensures { result ≡ spec.setpoint_values setpoint cross_track_m }
 {
     match setpoint {
         Setpoint::Plane {
             roll_rad,
             pitch_rad,
             thrust,
-        } => Line {
-            number,
-            first,
-            second,
-            refusal: 0,
-            values: [to_bits(roll_rad), to_bits(pitch_rad), to_bits(thrust), 0],
-            count: 3,
+        } => match cross_track_m {
+            None => Values::Three([roll_rad, pitch_rad, thrust].map(to_bits)),
+            Some(off) => Values::Four([roll_rad, pitch_rad, thrust, off].map(to_bits)),
         },
         Setpoint::PlaneRate {
             roll_radps,
             pitch_radps,
             yaw_radps,
             thrust,
-        } => Line {
-            number,
-            first,
-            second,
-            refusal: 0,
-            values: [
-                to_bits(roll_radps),
-                to_bits(pitch_radps),
-                to_bits(yaw_radps),
-                to_bits(thrust),
-            ],
-            count: 4,
-        },
+        } => Values::Four([roll_radps, pitch_radps, yaw_radps, thrust].map(to_bits)),
     }
 }
 
-// A waypoint's: the setpoint's numbers and the distance off the line.
-fn waypoint_line(
-    number: u32,
-    first: Word,
-    second: Word,
-    setpoint: Setpoint,
-    cross_track_m: f32,
-) -> Line
-    ensures { result ≡ spec.waypoint_line number first second setpoint cross_track_m }
+fn setpoint_line(number: u32, first: Word, second: Option<Word>, values: Values) -> Line
+    ensures { result ≡ spec.setpoint_line number first second values }
 {
-    match setpoint {
-        Setpoint::Plane {
-            roll_rad,
-            pitch_rad,
-            thrust,
-        } => Line {
-            number,
-            first,
-            second,
-            refusal: 0,
-            values: [
-                to_bits(roll_rad),
-                to_bits(pitch_rad),
-                to_bits(thrust),
-                to_bits(cross_track_m),
-            ],
-            count: 4,
-        },
-        Setpoint::PlaneRate {
-            roll_radps,
-            pitch_radps,
-            yaw_radps,
-            thrust,
-        } => Line {
-            number,
-            first,
-            second,
-            refusal: 0,
-            values: [
-                to_bits(roll_radps),
-                to_bits(pitch_radps),
-                to_bits(yaw_radps),
-                to_bits(thrust),
-            ],
-            count: 4,
-        },
+    Line {
+        call: Some(number),
+        first,
+        second,
+        refusal: None,
+        values,
     }
 }
 
@@ -139,17 +99,8 @@ fn kind_word(setpoint: Setpoint) -> Word
     ensures { result ≡ spec.kind_word setpoint }
 {
     match setpoint {
-        Setpoint::Plane {
-            roll_rad,
-            pitch_rad,
-            thrust,
-        } => Word::Plane,
-        Setpoint::PlaneRate {
-            roll_radps,
-            pitch_radps,
-            yaw_radps,
-            thrust,
-        } => Word::Rate,
+        Setpoint::Plane { .. } => Word::Plane,
+        Setpoint::PlaneRate { .. } => Word::Rate,
     }
 }
 
@@ -173,33 +124,28 @@ fn vertical_word(law: VerticalLaw) -> Word
     }
 }
 
-fn answer_line(number: u32, answer: Answer) -> Line
+#[tactic(auto, unfolding(crate::specs::Text::answer_line))]
+fn answer_line(number: u32, answer: Result<Answer, Refusal>) -> Line
     ensures { result ≡ spec.answer_line number answer }
 {
     match answer {
-        Answer::Refused(refusal) => refused_line(number, refusal),
-        Answer::Commanded(setpoint) => setpoint_line(
+        Err(why) => refused_line(Some(number), why),
+        Ok(Answer::Commanded(setpoint)) => setpoint_line(
             number,
             kind_word(setpoint),
-            Word::None,
-            setpoint,
+            None,
+            setpoint_values(setpoint, None),
         ),
-        Answer::Waypoint(a) => {
-            let setpoint = a.setpoint;
-            let laws = a.laws;
-            let lateral = laws.lateral;
-            let vertical = laws.vertical;
-            waypoint_line(
-                number,
-                lateral_word(lateral),
-                vertical_word(vertical),
-                setpoint,
-                a.cross_track_m,
-            )
-        }
+        Ok(Answer::Waypoint(a)) => setpoint_line(
+            number,
+            lateral_word(a.laws.lateral),
+            Some(vertical_word(a.laws.vertical)),
+            setpoint_values(a.setpoint, Some(a.cross_track_m)),
+        ),
     }
 }
 
+#[tactic(auto, unfolding(crate::specs::Text::reply_line))]
 fn reply_line(number: u32, reply: Reply) -> Line
     ensures { result ≡ spec.reply_line number (as_reply reply) }
 {
@@ -210,14 +156,13 @@ fn reply_line(number: u32, reply: Reply) -> Line
 }
 
 // A call's line, and the guidance after it.
+#[tactic(auto, unfolding(crate::specs::Code::Performed::call_line))]
 pub fn call_line(number: u32, g: PlaneGuidance, call: Call) -> CallLine
     ensures { result ≡ call_line number g call }
 {
     let done = calls::perform(g, call);
-    let guidance = done.guidance;
-    let reply = done.reply;
     CallLine {
-        line: reply_line(number, reply),
-        guidance,
+        line: reply_line(number, done.reply),
+        guidance: done.guidance,
     }
 }

@@ -1,7 +1,10 @@
 -- "The skipper does everything; a deckhand may guide, on a route too, prime and read the mode report; a watcher only reads it."
 -- K12's report all callers may read. Whatever replays records or draws a path acts as the skipper: replay, compaction and path, and
 -- what stands on them, take no caller. Definitions only.
-use Rattle.std.specs.Prelude.{ℕ, Bool, true, false, cond, eqb}
+use Rattle.std.specs.Prelude.{ℕ, Bool, true, false, cond, eqb, Result, Ok, Err}
+use Rattle.rights.specs.declared.Caller.{Caller}
+use Rattle.rights.specs.declared.Caller.TheVariants.{Skipper, Deckhand, Watcher}
+use Rattle.rights.specs.declared.UnknownCaller.{UnknownCaller}
 use Rattle.rights.specs.declared.Deed.{Deed}
 use Rattle.rights.specs.declared.Deed.TheVariants as deed
 
@@ -33,6 +36,16 @@ rights deed.RouteCall = row yes yes no
 rights deed.ModeReport = row yes yes yes
 rights deed.GuardReport = row yes yes yes
 rights deed.Other = row yes no no
+
+-- a caller's column
+abbrev pub right : Caller → Deed → Bool
+right Skipper d = (rights d).skipper
+right Deckhand d = (rights d).deckhand
+right Watcher d = (rights d).watcher
+
+-- the caller of a number
+abbrev pub caller_of : ℕ → Result Caller UnknownCaller
+caller_of n = cond (eqb n 0) (Ok Skipper) (cond (eqb n 1) (Ok Deckhand) (cond (eqb n 2) (Ok Watcher) (Err record {})))
 
 -- callers by number: skipper 0, deckhand 1, watcher 2; any other number has no right
 unfoldable pub may : ℕ → Deed → Bool

@@ -20,54 +20,49 @@ pub enum Deed {
     Other,
 }
 
-fn deckhand_may(deed: Deed) -> bool
-    ensures { result ≡ (spec.rights deed).deckhand }
-{
-    match deed {
-        Deed::New => false,
-        Deed::Guide => true,
-        Deed::Prime => true,
-        Deed::SetConfig => false,
-        Deed::TakeBack => false,
-        Deed::LoadRoute => false,
-        Deed::WriteRoute => false,
-        Deed::RouteCall => true,
-        Deed::ModeReport => true,
-        Deed::GuardReport => true,
-        Deed::Other => false,
+#[derive(Clone, Copy, PartialEq, Eq)]
+pub enum Caller {
+    Skipper,
+    Deckhand,
+    Watcher,
+}
+
+// A number that is no caller's.
+#[derive(Clone, Copy, PartialEq, Eq)]
+pub struct UnknownCaller;
+
+impl TryFrom<u32> for Caller {
+    type Error = UnknownCaller;
+
+    ghost try_from_gives = { λ number r. r ≡ spec.caller_of number };
+
+    fn try_from(number: u32) -> Result<Caller, UnknownCaller> {
+        match number {
+            0 => Ok(Caller::Skipper),
+            1 => Ok(Caller::Deckhand),
+            2 => Ok(Caller::Watcher),
+            _ => Err(UnknownCaller),
+        }
     }
 }
 
-fn watcher_may(deed: Deed) -> bool
-    ensures { result ≡ (spec.rights deed).watcher }
-{
-    match deed {
-        Deed::New => false,
-        Deed::Guide => false,
-        Deed::Prime => false,
-        Deed::SetConfig => false,
-        Deed::TakeBack => false,
-        Deed::LoadRoute => false,
-        Deed::WriteRoute => false,
-        Deed::RouteCall => false,
-        Deed::ModeReport => true,
-        Deed::GuardReport => true,
-        Deed::Other => false,
+impl Caller {
+    pub fn may(self, deed: Deed) -> bool
+        ensures { result ≡ spec.right self deed }
+    {
+        match (self, deed) {
+            (Caller::Skipper, _) => true,
+            (Caller::Deckhand, Deed::Guide | Deed::Prime | Deed::RouteCall) => true,
+            (_, Deed::ModeReport | Deed::GuardReport) => true,
+            _ => false,
+        }
     }
 }
 
-// caller: 0 skipper, 1 deckhand, 2 watcher; any other number has no right.
+// By the caller's number: one that is no caller's has no right.
+#[tactic(auto, unfolding(crate::specs::Rights::may))]
 pub fn may(caller: u32, deed: Deed) -> bool
     ensures { result ≡ spec.may caller deed }
 {
-    if caller == 0 {
-        return true;
-    }
-    if caller == 1 {
-        return deckhand_may(deed);
-    }
-    if caller == 2 {
-        return watcher_may(deed);
-    }
-    false
+    Caller::try_from(caller).is_ok_and(|known| known.may(deed))
 }

@@ -1,4 +1,5 @@
 -- Why K9's claim names watchers and forbidden calls: of deckhands it is false, by computation. Assumes nothing.
+use Rattle.std.specs.Prelude.{None, is_some}
 use Prim.Native.Nat.{ℕ}
 use mathlib.Core.Path.{◌≡◌, refl}
 use mathlib.Core.Bool.{Bool, true, false}
@@ -12,16 +13,13 @@ use Rattle.laws.specs.Config.{tecs_default, default}
 use Rattle.laws.specs.Tecs.{reset}
 use Rattle.laws.specs.declared.types.ControlInput.TheVariants as Input
 use Rattle.laws.specs.declared.types.FlightRegime.TheVariants as Regime
-use Rattle.laws.specs.declared.types.OptionF32.TheVariants.{None}
 use Rattle.laws.specs.declared.types.VehicleState.{VehicleState}
 use Rattle.guidance.specs.Plane as Plane
 use Rattle.guidance.specs.Plane.{fresh}
-use Rattle.guidance.specs.declared.plane.ModeRefusal.{ModeRefusal}
-use Rattle.guidance.specs.declared.plane.ModeRefusal.TheVariants as Why
 use Rattle.claims.specs.Calls.{guide, perform, unmarked}
 use Rattle.rights.specs.Rights.{may}
 use Rattle.rights_claims.specs.Runs.{answers, marks}
-use Rattle.rights_claims.specs.Sent.{Held, call, mode, Told, forbidden, made, replied, loaded, written, flown, reported, stands, Sent, act, answer_to}
+use Rattle.rights_claims.specs.Sent.{Held, call, mode, Told, reported, Sent, act, answer_to}
 
 start : Held
 start = record { guidance = fresh default; route = record { map = 0; number = 0 }; numbers = [] }
@@ -44,21 +42,11 @@ landing who =
     record { caller = 0; wants = mode } ∷
     []
 
-is_unsupported : ModeRefusal → Bool
-is_unsupported Why.None = false
-is_unsupported Why.Unsupported = true
-
--- whether the last answer is a report of an unsupported mode
+-- whether the first report of the mode says that it is unsupported
 unsupported : List Told → Bool
 unsupported [] = false
-unsupported (forbidden s ∷ rest) = unsupported rest
-unsupported (made n ∷ rest) = unsupported rest
-unsupported (replied r ∷ rest) = unsupported rest
-unsupported (loaded r ∷ rest) = unsupported rest
-unsupported (written r s ∷ rest) = unsupported rest
-unsupported (flown a ∷ rest) = unsupported rest
-unsupported (reported m ∷ rest) = is_unsupported m.refusal
-unsupported (stands b ∷ rest) = unsupported rest
+unsupported (reported m ∷ rest) = is_some m.refusal
+unsupported (_ ∷ rest) = unsupported rest
 
 -- the report that the skipper gets in the list, and in the list without this caller's calls
 first : ℕ → Bool
@@ -72,7 +60,7 @@ told = first 2 ∷ without 2 ∷ first 1 ∷ without 1 ∷ []
 
 -- a watcher's landing changes no report; a deckhand's does
 computed : told ≡ false ∷ false ∷ true ∷ false ∷ []
-unfolding told first without unsupported is_unsupported landing start at_rest answers answer_to act marks unmarked may perform fresh
+unfolding told first without unsupported landing start at_rest answers answer_to act marks unmarked may perform fresh
     default tecs_default reset finite Plane.flight_mode Plane.guided Plane.obeyed Plane.commanded Plane.cleared Plane.no_former Ieee.lt Ieee.le
     Ieee.eq of_bits
 computed = refl

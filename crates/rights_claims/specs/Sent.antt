@@ -1,17 +1,15 @@
 -- Calls on a guidance and its route, each by a caller. Definitions only.
-use Rattle.std.specs.Prelude.{ℕ, Bool, cond, not, List, [], eqb, Float}
+use Rattle.std.specs.Prelude.{ℕ, Bool, cond, not, List, [], eqb, Float, Result, Ok, Err}
+use Rattle.refusals.specs.declared.Refusal.{Refusal}
+use Rattle.laws.specs.declared.config.InvalidConfig.{InvalidConfig}
 use Rattle.laws.specs.declared.config.PlaneGuidanceConfig.{PlaneGuidanceConfig}
 use Rattle.guidance.specs.Plane.{created, flight_mode, stall_guard}
 use Rattle.guidance.specs.declared.plane.PlaneGuidance.{PlaneGuidance}
-use Rattle.guidance.specs.declared.plane.Created.{Created}
-use Rattle.guidance.specs.declared.plane.Created.TheVariants as New
 use Rattle.guidance.specs.declared.plane.Answer.{Answer}
 use Rattle.guidance.specs.declared.plane.FlightModeReport.{FlightModeReport}
 use Rattle.claims.specs.Calls.{Call, guide, prime, set_config, take_back, Reply, Outcome, perform}
-use Rattle.fields.specs.declared.Written.{Written}
 use Rattle.route_records.specs.Record.{load_answer, load_buffer, write_answer, write_buffer}
 use Rattle.route_records.specs.declared.Loaded.{Loaded}
-use Rattle.route_records.specs.declared.Loaded.TheVariants as Load
 use Rattle.routes.specs.Route.{fly}
 use Rattle.routes.specs.declared.Route.{Route}
 use Rattle.routes.specs.declared.RouteCall.{RouteCall}
@@ -40,40 +38,40 @@ pub data Act : Type 0 where
   mode : Act
   guard : Act
 
--- what the caller gets: number 13; 0 or the field of number 1; a reply; 0 or a refusal with the lent bytes after it; and so on
+-- what the caller gets: number 13; 0 or the field of number 1; a reply; a place or a refusal with the lent bytes after it; and so on
 pub data Told : Type 0 where
   forbidden : List ℕ → Told
   made : ℕ → Told
   replied : Reply → Told
-  loaded : Loaded → Told
-  written : Written → List ℕ → Told
-  flown : Answer → Told
+  loaded : Result Loaded Refusal → Told
+  written : Result ℕ Refusal → List ℕ → Told
+  flown : Result Answer Refusal → Told
   reported : FlightModeReport → Told
   stands : Bool → Told
 
 abbrev pub with_guidance : Held → PlaneGuidance → Held
-with_guidance h g = record { guidance = g; route = h.route; numbers = h.numbers }
+with_guidance h g = record h { guidance = g }
 
 -- number 1 keeps the guidance that was there
-abbrev pub made_by : Held → Created → Step Told Held
-made_by h (New.Refused failing) = record { answer = made failing; left = h }
-made_by h (New.Made g) = record { answer = made 0; left = with_guidance h g }
+abbrev pub made_by : Held → Result PlaneGuidance InvalidConfig → Step Told Held
+made_by h (Err e) = record { answer = made e.field; left = h }
+made_by h (Ok g) = record { answer = made 0; left = with_guidance h g }
 
 abbrev pub replied_by : Held → Outcome → Step Told Held
 replied_by h o = record { answer = replied o.reply; left = with_guidance h o.next }
 
 -- "The number starts at 1 on loading"; a refused loading keeps route and number
-abbrev pub loaded_by : Held → List Float → Loaded → Step Told Held
-loaded_by h numbers (Load.Read map next) = record {
-  answer = loaded (Load.Read map next);
-  left = record { guidance = h.guidance; route = record { map = map; number = 1 }; numbers = numbers };
+abbrev pub loaded_by : Held → List Float → Result Loaded Refusal → Step Told Held
+loaded_by h numbers (Ok l) = record {
+  answer = loaded (Ok l);
+  left = record h { route = record { map = l.map; number = 1 }; numbers = numbers };
 }
-loaded_by h numbers (Load.Refused n) = record { answer = loaded (Load.Refused n); left = h }
+loaded_by h numbers (Err why) = record { answer = loaded (Err why); left = h }
 
 abbrev pub flown_by : Held → Flown → Step Told Held
 flown_by h o = record {
   answer = flown o.answer;
-  left = record { guidance = o.guidance; route = record { map = h.route.map; number = o.number }; numbers = h.numbers };
+  left = record h { guidance = o.guidance; route = record { map = h.route.map; number = o.number } };
 }
 
 -- what the contracts of guidance, route_records and routes say

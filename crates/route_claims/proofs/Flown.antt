@@ -1,17 +1,18 @@
 -- The claims hold of every list of calls. Assumes nothing.
-use mathlib.Core.Path.{◌≡◌, refl, sym, ap, subst, ◌∙◌}
+use Rattle.std.specs.Prelude.{Option, Ok, is_ok, Float}
+use mathlib.Core.Path.{◌≡◌, refl, sym, ap, ◌∙◌}
+use Rattle.std.proofs.lemmas.Bool.{not-false, not-true}
 use mathlib.Core.Bool.{Bool, true, false, cond, not, ◌&&◌}
 use mathlib.Core.List.{List, [], ◌∷◌, ◌++◌}
 use Prim.Native.Nat.{ℕ, ◌+◌, ◌-◌, ◌≤◌}
 use native.Mathlib.Omega.{arith}
 use borrow.Author.Tests.{eqb-true, leb-true}
-use lib.Dec.{T, eqb, leb}
+use lib.Dec.{eqb, leb}
 use lib.ListN.{length}
 use lib.Ieee.{Float}
 use Rattle.arithmetic.specs.declared.vector.Vec2.{Vec2}
 use Rattle.laws.specs.Config.{validate}
 use Rattle.laws.specs.declared.config.PlaneGuidanceConfig.{PlaneGuidanceConfig}
-use Rattle.laws.specs.declared.types.OptionF32.{OptionF32}
 use Rattle.laws.specs.declared.types.FlightRegime.{FlightRegime}
 use Rattle.laws.specs.declared.types.VehicleState.{VehicleState}
 use Rattle.laws.specs.declared.types.WaypointCommand.{WaypointCommand}
@@ -21,7 +22,7 @@ use Rattle.guidance.specs.declared.plane.PlaneGuidance.{PlaneGuidance}
 use Rattle.guidance.specs.declared.plane.Guided.{Guided}
 use Rattle.claims.specs.Calls.{Call, Reply, answered, refused, perform, replies, after}
 use Rattle.claims.proofs.Demand3 as proved
-use Rattle.routes.specs.Route.{is_accepted, settled, is_near, is_passed, numbered, meets, reached, wanted, guided_to, route_call, lent_refusal}
+use Rattle.routes.specs.Route.{settled, is_near, is_passed, numbered, meets, reached, wanted, guided_to, route_call, check_lent}
 use Rattle.routes.specs.declared.Point.{Point}
 use Rattle.routes.specs.declared.RouteCall.{RouteCall}
 use Rattle.route_claims.specs.Flights.{
@@ -40,27 +41,24 @@ use Rattle.route_claims.specs.Flights.{
   all_made,
 }
 use Rattle.route_claims.specs.Claim.{meets_test, moves_on, RouteFlown, RouteDemand3, EveryRoute}
-use Rattle.route_claims.proofs.Loaded.{some_points, fly_is}
-
-never : {A : Type 0} → true ≡ false → A
-never e = absurd (subst T e tt)
+use Rattle.route_claims.proofs.Loaded.{some, fly_is}
 
 -- ---- one call
 
--- a refusal returns the guidance as it was
-abbrev Keeps : PlaneGuidance → Guided → Type 0
-Keeps g o = is_accepted o.answer ≡ false → o.guidance ≡ g
+-- a refusal returns the guidance as it was, and has a number
+abbrev Told : PlaneGuidance → Guided → Type 0
+Told g o = (is_ok o.answer ≡ false → o.guidance ≡ g) × (refused (answered o.answer) ≡ not (is_ok o.answer))
 
-either : (P : Guided → Type 0) (b : Bool) (x y : Guided) → P x → P y → P (cond b x y)
-either P true x y p q = p
-either P false x y p q = q
+either : (g : PlaneGuidance) (b : Bool) (x y : Guided) → Told g x → Told g y → Told g (cond b x y)
+either g true x y p q = p
+either g false x y p q = q
 
-waypoint_keeps : (g : PlaneGuidance) (dt : Float) (r : FlightRegime) (w : WaypointCommand) (s : VehicleState) (cap : OptionF32)
-    → Keeps g (guided g dt r (Input.Waypoint w) s cap)
+waypoint_told : (g : PlaneGuidance) (dt : Float) (r : FlightRegime) (w : WaypointCommand) (s : VehicleState) (cap : Option Float)
+    → Told g (guided g dt r (Input.Waypoint w) s cap)
 unfolding guided obeyed waypoint
-waypoint_keeps g dt r w s cap =
-    either (Keeps g) (bad_time_step dt) _ _ (λ e. refl)
-    (either (Keeps g) (bad_cap cap) _ _ (λ e. refl) (either (Keeps g) (all_finite _) _ _ (λ e. never e) (λ e. refl)))
+waypoint_told g dt r w s cap =
+    either g (bad_time_step dt) _ _ (λ e. refl, refl)
+    (either g (bad_cap cap) _ _ (λ e. refl, refl) (either g (all_finite _) _ _ (λ e. cc, refl) (λ e. refl, refl)))
 
 raised : (accepted met : Bool) (n : ℕ) → cond accepted (cond met (n + 1) n) n ≡ cond (not (not accepted) && met) (n + 1) n
 raised true true n = refl
@@ -68,19 +66,11 @@ raised true false n = refl
 raised false true n = refl
 raised false false n = refl
 
-un_not : (b : Bool) → not b ≡ false → b ≡ true
-un_not true e = refl
-un_not false e = never e
-
-un_not' : (b : Bool) → not b ≡ true → b ≡ false
-un_not' true e = never (sym e)
-un_not' false e = refl
-
 -- a number that the points have, or one past the last
 abbrev Within : List Point → ℕ → Type 0
 Within ps n = (1 ≤ n) × (n ≤ length ps + 1)
 
-module _ (r : Lent) (ok : lent_refusal r.map (length r.numbers) ≡ 0) where
+module _ (r : Lent) (ok : check_lent r.map (length r.numbers) ≡ Ok tt) where
   module _ (f : Flight) (k : RouteCall) (w : Within (points r) f.number) where
     abbrev Next : ℕ
     Next = wanted f.guidance (points r) f.number k
@@ -92,7 +82,7 @@ module _ (r : Lent) (ok : lent_refusal r.map (length r.numbers) ≡ 0) where
     unfolding step route_call
     route_is = ap flown_by (fly_is r ok f.guidance f.number k w.0 w.1)
 
-    route_number : (step r f (route k)).next.number ≡ cond (is_accepted O.answer) Next f.number
+    route_number : (step r f (route k)).next.number ≡ cond (is_ok O.answer) Next f.number
     unfolding settled
     route_number = rw route_is refl
 
@@ -104,22 +94,22 @@ module _ (r : Lent) (ok : lent_refusal r.map (length r.numbers) ≡ 0) where
     unfolding settled
     route_guidance = rw route_is refl
 
-    is_refused : refused (step r f (route k)).reply ≡ not (is_accepted O.answer)
-    is_refused = rw route_reply
+    is_refused : refused (step r f (route k)).reply ≡ not (is_ok O.answer)
+    is_refused = rw route_reply (waypoint_told f.guidance k.dt k.regime _ k.state k.cap).1
 
     answer_is : refused (step r f (route k)).reply ≡ false
         → (step r f (route k)).reply ≡ answered (guided_to f.guidance (points r) (step r f (route k)).next.number k).answer
     answer_is e =
-        let yes : is_accepted O.answer ≡ true = un_not _ (sym is_refused ∙ e) in
+        let yes : is_ok O.answer ≡ true = not-false _ (sym is_refused ∙ e) in
         let n : (step r f (route k)).next.number ≡ Next = route_number ∙ rw yes in
         rw (n, route_reply)
 
     refusal_is : refused (step r f (route k)).reply ≡ true → ((step r f (route k)).reply ≡ answered O.answer) × ((step r f (route k)).next ≡ f)
     refusal_is e =
-        let no : is_accepted O.answer ≡ false = un_not' _ (sym is_refused ∙ e) in
+        let no : is_ok O.answer ≡ false = not-true _ (sym is_refused ∙ e) in
         let n : (step r f (route k)).next.number ≡ f.number = route_number ∙ rw no in
         let g : (step r f (route k)).next.guidance ≡ f.guidance =
-        route_guidance ∙ waypoint_keeps f.guidance k.dt k.regime _ k.state k.cap no in
+        route_guidance ∙ (waypoint_told f.guidance k.dt k.regime _ k.state k.cap).0 no in
         (route_reply, λ i. record { guidance = g i; number = n i })
 
   other_number : (f : Flight) (k : Call) → (step r f (other k)).next.number ≡ f.number
@@ -131,7 +121,7 @@ module _ (r : Lent) (ok : lent_refusal r.map (length r.numbers) ≡ 0) where
   rises_once : (f : Flight) (k : Step) → Within (points r) f.number → (step r f k).next.number ≡ cond (moves_on r f k) (f.number + 1) f.number
   unfolding reached
   rises_once f (route k) w =
-      route_number f k w ∙ raised (is_accepted (O f k w).answer) (meets_test r f k) f.number
+      route_number f k w ∙ raised (is_ok (O f k w).answer) (meets_test r f k) f.number
       ∙ ap (λ (b : Bool). cond (not b && meets_test r f k) (f.number + 1) f.number) (sym (is_refused f k w))
   rises_once f (other k) w = other_number f k
 
@@ -153,9 +143,9 @@ module _ (r : Lent) (ok : lent_refusal r.map (length r.numbers) ≡ 0) where
       go : (a : Bool) → eqb n 1 ≡ a → (b : Bool) → leb n (length ps) ≡ b
           → cond a (is_near (numbered ps 1) position radius) (cond b (is_passed (numbered ps (n - 1)) (numbered ps n) position) false) ≡ true
           → Within ps (n + 1)
-      go true p b q z = let one : n ≡ 1 = eqb-true n 1 p in (omega arith, omega (arith, (some_points r ok).0))
+      go true p b q z = let one : n ≡ 1 = eqb-true n 1 p in (omega arith, omega (arith, some r ok))
       go false p true q z = let l : n ≤ length ps = leb-true n (length ps) q in (omega arith, omega arith)
-      go false p false q z = never (sym z)
+      go false p false q z = absurd (cc)
 
   step_within : (f : Flight) (k : Step) → Within (points r) f.number → Within (points r) (step r f k).next.number
   step_within f (route k) w = rw (rises_once f (route k) w) (go (refused (step r f (route k)).reply) (meets_test r f k) refl)

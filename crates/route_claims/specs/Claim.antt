@@ -1,14 +1,14 @@
 -- "Wanted of every list of calls from one loading to the next": one claim about the list, and demand 3 under a route.
-use Rattle.std.specs.Prelude.{◌≡◌, Bool, true, false, cond, not, ◌&&◌, List, [], ◌∷◌, ◌++◌, ℕ, ◌+◌, ◌≤◌, length, Float}
+use Rattle.std.specs.Prelude.{◌≡◌, Bool, true, false, cond, not, ◌&&◌, List, [], ◌∷◌, ◌++◌, ℕ, ◌+◌, ◌≤◌, length, Float, Ok}
 use Rattle.laws.specs.Config.{validate}
+use Rattle.laws.specs.Types.{north_east}
 use Rattle.laws.specs.declared.config.PlaneGuidanceConfig.{PlaneGuidanceConfig}
 use Rattle.guidance.specs.Plane.{fresh}
 use Rattle.guidance.specs.declared.plane.PlaneGuidance.{PlaneGuidance}
 use Rattle.claims.specs.Calls.{answered, refused, replies, after}
 use Rattle.claims.specs.Demand3.{Demand3}
 use Rattle.route_records.specs.Record.{load_answer, load_buffer}
-use Rattle.route_records.specs.declared.Loaded.TheVariants as answer
-use Rattle.routes.specs.Route.{north_east, meets, wanted, guided_to, route_call, lent_refusal, fly}
+use Rattle.routes.specs.Route.{meets, wanted, guided_to, route_call, check_lent, fly}
 use Rattle.routes.specs.declared.RouteCall.{RouteCall}
 use Rattle.route_claims.specs.Flights.{Lent, points, Step, route, other, Flight, step, loaded, flight_after, flight_replies, all_made}
 
@@ -56,18 +56,18 @@ pub record RouteDemand3 (r : Lent) (c : PlaneGuidanceConfig) (calls : List Step)
 
 -- Both hold of every route whose lent numbers are not refused, and none that was loaded is (`Flies`).
 pub record EveryRoute : Type 0 where
-  pub flown : (r : Lent) → lent_refusal r.map (length r.numbers) ≡ 0 → (g : PlaneGuidance) (calls : List Step) → RouteFlown r g calls
+  pub flown : (r : Lent) → check_lent r.map (length r.numbers) ≡ Ok tt → (g : PlaneGuidance) (calls : List Step) → RouteFlown r g calls
   pub demand3 :
-      (r : Lent) → lent_refusal r.map (length r.numbers) ≡ 0
+      (r : Lent) → check_lent r.map (length r.numbers) ≡ Ok tt
       → (c : PlaneGuidanceConfig) → validate c ≡ 0 → (calls : List Step) → RouteDemand3 r c calls
 
 -- A route that was loaded into lent numbers is never refused; one that is not refused has from 1 to 62 points, and flying it by its numbers,
 -- at a number from 1 to one past the last point, is the route call over its points.
 pub record Flies : Type 0 where
   pub loads :
-      (s : List ℕ) (at : ℕ) (out : List Float) (map next : ℕ) → load_answer s at out ≡ answer.Read map next
-      → lent_refusal map (length (load_buffer s at out)) ≡ 0
+      (s : List ℕ) (at : ℕ) (out : List Float) (map next : ℕ) → load_answer s at out ≡ Ok (record { map = map; next = next })
+      → check_lent map (length (load_buffer s at out)) ≡ Ok tt
   pub flies :
-      (g : PlaneGuidance) (r : Lent) (n : ℕ) (k : RouteCall) → lent_refusal r.map (length r.numbers) ≡ 0
+      (g : PlaneGuidance) (r : Lent) (n : ℕ) (k : RouteCall) → check_lent r.map (length r.numbers) ≡ Ok tt
       → (1 ≤ length (points r)) × (length (points r) ≤ 62)
       × (1 ≤ n → n ≤ length (points r) + 1 → fly g (record { map = r.map; number = n }) r.numbers k ≡ route_call g (points r) n k)

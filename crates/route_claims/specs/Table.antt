@@ -1,10 +1,11 @@
 -- Edge cases of the test, and of loading: one table each. Statements only; proofs/Table.antt computes them.
-use Rattle.std.specs.Prelude.{◌≡◌, Bool, true, false, List, [], ◌∷◌, ◌++◌, ℕ, length, replicate, Float}
+use Rattle.std.specs.Prelude.{◌≡◌, Bool, true, false, List, [], ◌∷◌, ◌++◌, ℕ, length, replicate, Float, Ok, Err}
 use Rattle.std.specs.Float.{nan}
+use Rattle.refusals.specs.Numbers.{number}
 use Rattle.arithmetic.specs.Constants.{f32, n0}
 use Rattle.arithmetic.specs.declared.vector.Vec2.{Vec2}
 use Rattle.fields.specs.Fields.{ones}
-use Rattle.route_records.specs.Record.{RouteRead, refused, read, read_route}
+use Rattle.route_records.specs.Record.{RouteRead, read_route}
 use Rattle.route_records.specs.Older.{older_read_route}
 use Rattle.routes.specs.Route.{points_of, meets}
 use Rattle.routes.specs.declared.Point.{Point}
@@ -66,8 +67,8 @@ gapped_record =
     1 ∷ 0 ∷ 0 ∷ 128 ∷ 1 ∷ 0 ∷ 0 ∷ 64 ∷ replicate 16 0 ++ (hundred_bytes ++ replicate 12 0) ++ (hundred_bytes ++ hundred_bytes ++ replicate 8 0)
 
 abbrev pub points_read : RouteRead → List Point
-points_read (refused n) = []
-points_read (read r next) = points_of (ones 64 r.map) r.numbers
+points_read (Err why) = []
+points_read (Ok (r, next)) = points_of (ones 64 r.map) r.numbers
 
 abbrev pub gapped : List Point
 gapped = points_read (read_route gapped_record 0)
@@ -131,8 +132,8 @@ TestTable = found cases ≡ wanted cases
 -- ---- loading: the refusal's number, or 0, the route's map, how many numbers were read, and the place after the record
 
 abbrev pub outcome : RouteRead → List ℕ
-outcome (refused n) = n ∷ []
-outcome (read r next) = 0 ∷ r.map ∷ length r.numbers ∷ next ∷ []
+outcome (Err why) = number why ∷ []
+outcome (Ok (r, next)) = 0 ∷ r.map ∷ length r.numbers ∷ next ∷ []
 
 -- sixteen bytes of a point, each 0, and the same with the first number NaN or infinite
 abbrev pub still : List ℕ

@@ -1,11 +1,12 @@
 -- Each outcome of reading the maps of a route's record, what maps that were read are, and their bytes. Assumes nothing.
+use Rattle.std.specs.Prelude.{Result, Ok, Err}
 use mathlib.Core.Path.{◌≡◌, refl, sym, ap, ◌∙◌}
 use mathlib.Core.Bool.{Bool, true, false, cond, not}
 use mathlib.Core.List.{List, ◌++◌, append_assoc}
 use Prim.Native.Nat.{ℕ, zero, suc, ◌+◌, ◌-◌, ◌/◌, ◌%◌, ◌<◌, ◌≤◌, ◌^◌}
 use native.Mathlib.Omega.{arith}
 use native.Mathlib.Nat.{zero-add, suc-add, pow-succ', div-div-eq-div-mul}
-use borrow.Author.Tests.{le-leb, lt-leb, lt-ltb, le-ltb, ltb-true, ltb-false, eqb-false}
+use borrow.Author.Tests.{lt-ltb, le-ltb, ltb-true, ltb-false, eqb-false}
 use borrow.Rule.Slice.PartMut.{put_mid}
 use lib.Dec.{eqb, ltb}
 use lib.ListN.{length, drop, take, length-append, length-drop}
@@ -13,23 +14,26 @@ use lib.Seq.{drop-drop}
 use Rattle.fields.specs.Bytes.{number_at, bytes_of}
 use Rattle.fields.specs.Fields.{ones}
 use Rattle.fields.proofs.NumberLaw.{bytes_long, number_back, drop_bytes}
-use Rattle.fields.proofs.FieldLaw.{ones_low, ones_below, rest_is, put_front, put_after}
-use Rattle.route_records.specs.declared.Loaded.TheVariants as loaded
-use Rattle.route_records.specs.Record.{map_refusal, one_map, joined, two_maps, read_maps, maps_bytes}
+use Rattle.fields.proofs.FieldLaw.{ones_low, ones_below, put_front, put_after}
+use Rattle.refusals.specs.declared.Refusal.{Refusal}
+use Rattle.refusals.specs.declared.Refusal.TheVariants as refusal
+use Rattle.route_records.specs.Record.{check_map, joined, maps_bytes}
 
 -- ---- a map that is not refused
 
 -- the lowest unnamed bit is b
-pub named : (b m : ℕ) → ◌≡◌ {A = ℕ} (cond (not (ltb m b)) 6 (cond (eqb m 0) 10 0)) 0 → (m < b) × (m ≡ 0 → ⊥)
+pub named : (b m : ℕ) → ◌≡◌ {A = Result (Unit {0}) Refusal} (cond (not (ltb m b)) (Err refusal.UnknownMap) (cond (eqb m 0) (Err refusal.NoPoint) (Ok tt))) (Ok tt)
+    → (m < b) × (m ≡ 0 → ⊥)
 named b m e = go (ltb m b) refl (eqb m 0) refl e
   where
-    go : (x : Bool) → ltb m b ≡ x → (z : Bool) → eqb m 0 ≡ z → ◌≡◌ {A = ℕ} (cond (not x) 6 (cond z 10 0)) 0 → (m < b) × (m ≡ 0 → ⊥)
-    go true q true r w = absurd (omega arith)
+    go : (x : Bool) → ltb m b ≡ x → (z : Bool) → eqb m 0 ≡ z
+        → ◌≡◌ {A = Result (Unit {0}) Refusal} (cond (not x) (Err refusal.UnknownMap) (cond z (Err refusal.NoPoint) (Ok tt))) (Ok tt) → (m < b) × (m ≡ 0 → ⊥)
+    go true q true r w = absurd (cc)
     go true q false r w = (ltb-true m b q, eqb-false m 0 r)
-    go false q z r w = absurd (omega arith)
+    go false q z r w = absurd (cc)
 
-pub map_is : (m : ℕ) → map_refusal m ≡ 0 → (m < 2 ^ 62) × (m ≡ 0 → ⊥)
-unfolding map_refusal
+pub map_is : (m : ℕ) → check_map m ≡ Ok tt → (m < 2 ^ 62) × (m ≡ 0 → ⊥)
+unfolding check_map
 map_is m e = named (2 ^ 62) m e
 
 -- ---- one map or two
@@ -61,33 +65,6 @@ maps_count first second h =
     let apart = maps_apart first second in
     let low : ones 31 m ≡ ones 31 first = sym (ones_low 31 0 m) ∙ ap (ones 31) apart.0 ∙ ones_low 31 0 first in
     ones_apart 31 33 m ∙ rw (low, apart.1, ones_below 31 2 second h)
-
--- ---- reading
-
-module _ (s : List ℕ) (at : ℕ) where
-  pub first_cut : length s < at + 4 → loaded.Refused 5 ≡ read_maps s at
-  unfolding read_maps
-  first_cut h = rw (lt-leb (at + 4) (length s) h)
-
-  -- m is what was read as the first map
-  module _ (h : at + 4 ≤ length s) (m : ℕ) (e : m ≡ number_at 4 (take (length s - at) (drop at s))) where
-    is_first : number_at 4 (drop at s) ≡ m
-    is_first = ap (number_at 4) (sym (rest_is s at)) ∙ sym e
-
-    pub stands_alone : m < 2 ^ 31 → one_map m (at + 4) ≡ read_maps s at
-    unfolding read_maps
-    stands_alone q = rw (le-leb (at + 4) (length s) h, is_first, lt-ltb m (2 ^ 31) q)
-
-    module _ (q : 2 ^ 31 ≤ m) where
-      pub second_cut : length s < at + 8 → loaded.Refused 5 ≡ read_maps s at
-      unfolding read_maps
-      second_cut k = rw (le-leb (at + 4) (length s) h, is_first, le-ltb _ _ q, lt-leb (at + 8) (length s) k)
-
-      pub has_second : at + 8 ≤ length s → (n : ℕ) → n ≡ number_at 4 (take (length s - (at + 4)) (drop (at + 4) s)) → two_maps m n (at + 8) ≡ read_maps s at
-      unfolding read_maps
-      has_second k n en =
-          let is_second : number_at 4 (drop (at + 4) s) ≡ n = ap (number_at 4) (sym (rest_is s (at + 4))) ∙ sym en in
-          rw (le-leb (at + 4) (length s) h, is_first, le-ltb _ _ q, le-leb (at + 8) (length s) k, is_second)
 
 -- ---- the maps' bytes
 
@@ -135,13 +112,6 @@ module _ (s : List ℕ) (at m : ℕ) (rest : List ℕ) (e : drop at s ≡ maps_b
         sym (drop-drop 4 at s) ∙ rw both_are (drop_bytes 4 (2 ^ 31 + m % 2 ^ 31) (bytes_of 4 (m / 2 ^ 31) ++ rest)) in
         rw after (number_back 4 (m / 2 ^ 31) rest (omega arith))
 
--- which of them the size tells
-pub is_one : (m k : ℕ) → k ≡ length (maps_bytes m) → k ≡ 4 → m < 2 ^ 31
-is_one m k e h = either m (λ (low : m < 2 ^ 31). low) (λ (high : 2 ^ 31 ≤ m). omega (arith, two_maps_long m high))
-
-pub is_two : (m k : ℕ) → k ≡ length (maps_bytes m) → (k ≡ 4 → ⊥) → 2 ^ 31 ≤ m
-is_two m k e h = either m (λ (low : m < 2 ^ 31). absurd (h (e ∙ one_map_long m low))) (λ (high : 2 ^ 31 ≤ m). high)
-
 -- ---- writing
 
 pub wrote_one : (part p : List ℕ) (m : ℕ) → m < 2 ^ 31 → p ≡ bytes_of 4 m ++ drop 4 part → p ≡ maps_bytes m ++ drop (length (maps_bytes m)) part
@@ -155,15 +125,12 @@ module _ (part : List ℕ) (m : ℕ) (h : 2 ^ 31 ≤ m) (room : length (maps_byt
   abbrev Second : List ℕ
   Second = bytes_of 4 (m / 2 ^ 31)
 
-  pub eight : 8 ≤ length part
+  eight : 8 ≤ length part
   eight = omega (arith, two_maps_long m h)
 
   module _ (q : List ℕ) (eq : q ≡ First ++ drop 4 part) where
-    pub length_kept : length q ≡ length part
+    length_kept : length q ≡ length part
     length_kept = rw eq (simp (length-append, length-drop) (omega (arith, bytes_long 4 (2 ^ 31 + m % 2 ^ 31), eight)))
-
-    pub second_fits : 4 ≤ length (take (length q - 4) (drop 4 q))
-    second_fits = rw (rest_is q 4) (simp length-drop (omega (arith, length_kept, eight)))
 
     pub wrote_two : (p : List ℕ) → p ≡ Second ++ drop 4 (take (length q - 4) (drop 4 q))
         → put_mid 4 (length q - 4) q p ≡ maps_bytes m ++ drop (length (maps_bytes m)) part

@@ -1,38 +1,33 @@
 -- Each outcome of loading and of writing a route. Assumes nothing.
-use mathlib.Core.Path.{◌≡◌, refl, sym, ap, ◌∙◌}
+use Rattle.std.specs.Prelude.{Result, Ok, Err}
+use mathlib.Core.Path.{◌≡◌, sym, ap, ◌∙◌}
 use mathlib.Core.Bool.{Bool, true, false}
 use mathlib.Core.List.{List, ◌++◌}
 use Prim.Native.Nat.{ℕ, ◌+◌, ◌-◌, ◌*◌, ◌<◌, ◌≤◌}
 use native.Mathlib.Omega.{arith}
-use borrow.Author.Tests.{le-leb, lt-leb, ne_eqb}
+use borrow.Author.Tests.{le-leb, lt-leb, leb-true, leb-false}
 use borrow.Rule.Slice.PartMut.{put_mid}
 use lib.ListN.{length, drop, take, length-append, length-drop}
 use lib.Seq.{length-take-le}
 use lib.Ieee.{Float}
-use Rattle.fields.specs.Bytes.{put_at}
+use Rattle.refusals.specs.declared.Refusal.{Refusal}
+use Rattle.refusals.specs.declared.Refusal.TheVariants as refusal
+use Rattle.fields.specs.Bytes.{has_bytes, put_at}
+use Rattle.fields.specs.Numbers.{numbers_at}
 use Rattle.fields.specs.Writing.{answer_of, buffer_of}
-use Rattle.fields.specs.declared.Written.{Written}
-use Rattle.fields.specs.declared.Written.TheVariants as written
-use Rattle.fields.proofs.FieldLaw.{rest_is}
+use Rattle.fields.proofs.FieldLaw.{rest_is, put_after}
 use Rattle.fields.proofs.WriteLaw as write
 use Rattle.route_records.specs.declared.Loaded.{Loaded}
-use Rattle.route_records.specs.declared.Loaded.TheVariants as loaded
 use Rattle.route_records.specs.Record.{
   Route,
   number_count,
-  map_refusal,
-  numbers_at,
+  check_map,
   all_finite,
   RouteRead,
-  refused,
   read,
-  read_maps,
   read_points,
-  read_route,
   answer_to,
   buffer_to,
-  load_answer,
-  load_buffer,
   number_bytes,
   maps_bytes,
   route_record,
@@ -41,78 +36,28 @@ use Rattle.route_records.specs.Record.{
 }
 use Rattle.route_records.proofs.NumbersLaw.{numbers_long, bytes_size}
 
--- n numbers in hand, and their bytes in what is left of a slice
-pub part_room : (k n at : ℕ) (xs : List Float) (s : List ℕ) → n ≤ length xs → at + (k + 4 * n) ≤ length s
-    → k + 4 * length (take n xs) ≤ length (take (length s - at) (drop at s))
-part_room k n at xs s h l = rw (length-take-le n xs h, rest_is s at) (simp length-drop (omega arith))
+-- ---- lent numbers that are too few
 
--- ---- loading the points that follow the maps
-
-module _ (s : List ℕ) (from m : ℕ) (out : List Float) where
+module _ (s : List ℕ) (maps : Loaded) (out : List Float) (n : ℕ) (en : n ≡ number_count maps.map) where
   abbrev Found : RouteRead
-  Found = read_points (loaded.Read m from) s
+  Found = read_points (Ok maps) s
 
-  abbrev Loads : Loaded → List Float → Type 0
-  Loads l after = (l ≡ answer_to Found out) × (after ≡ buffer_to Found out)
+  abbrev Numbers : List Float
+  Numbers = numbers_at n (drop maps.next s)
 
-  stays : (n : ℕ) → Found ≡ refused n → Loads (loaded.Refused n) out
-  stays n e = (rw e, rw e)
+  -- b says whether all are finite
+  module _ (fits : has_bytes s maps.next (4 * n) ≡ true) (b : Bool) (eb : b ≡ all_finite (numbers_at n (take (length s - maps.next) (drop maps.next s)))) (q : b ≡ true) where
+    are_finite : all_finite Numbers ≡ true
+    are_finite = ap (λ (x : List ℕ). all_finite (numbers_at n x)) (sym (rest_is s maps.next)) ∙ sym eb ∙ q
 
-  -- n is the count of numbers
-  module _ (n : ℕ) (en : n ≡ number_count m) where
-    is_short : length s < from + 4 * n → Found ≡ refused 5
+    found : Found ≡ read (record { map = maps.map; numbers = Numbers }) (maps.next + 4 * n)
     unfolding read_points
-    is_short k = rw (← en, lt-leb (from + 4 * n) (length s) k)
+    found = rw (← en, fits, are_finite)
 
-    pub short : length s < from + 4 * n → Loads (loaded.Refused 5) out
-    short k = stays 5 (is_short k)
-
-    -- b says whether all are finite
-    module _ (l : from + 4 * n ≤ length s) (b : Bool) (eb : b ≡ all_finite (numbers_at n (take (length s - from) (drop from s)))) where
-      are_finite : all_finite (numbers_at n (drop from s)) ≡ b
-      are_finite = ap (λ (x : List ℕ). all_finite (numbers_at n x)) (sym (rest_is s from)) ∙ sym eb
-
-      is_not_finite : b ≡ false → Found ≡ refused 11
-      unfolding read_points
-      is_not_finite q = rw (← en, le-leb (from + 4 * n) (length s) l, are_finite, q)
-
-      pub not_finite : b ≡ false → Loads (loaded.Refused 11) out
-      not_finite q = stays 11 (is_not_finite q)
-
-      abbrev Numbers : List Float
-      Numbers = numbers_at n (drop from s)
-
-      read_is : b ≡ true → Found ≡ read (record { map = m; numbers = Numbers }) (from + 4 * n)
-      unfolding read_points
-      read_is q = rw (← en, le-leb (from + 4 * n) (length s) l, are_finite, q)
-
-      pub no_room : b ≡ true → length out < n → Loads (loaded.Refused 8) out
-      no_room q k =
-          let no = lt-leb (length Numbers) (length out) (rw (numbers_long n (drop from s)) k) in
-          (rw (read_is q, no), rw (read_is q, no))
-
-      pub loads : b ≡ true → n ≤ length out → (p : List Float) → p ≡ numbers_at (length (take n out)) (take (length s - from) (drop from s))
-          → Loads (loaded.Read m (from + 4 * n)) (p ++ drop n out)
-      loads q k p ep =
-          let long = numbers_long n (drop from s) in
-          let yes = le-leb (length Numbers) (length out) (rw long k) in
-          let is_p : p ≡ Numbers = ep ∙ rw (length-take-le n out k, rest_is s from) in
-          (rw (read_is q, yes), rw (read_is q, yes, is_p, long))
-
--- a place past the end
-pub past : (s : List ℕ) (from m : ℕ) (out : List Float) → length s < from → Loads s from m out (loaded.Refused 5) out
-past s from m out k = short s from m out (number_count m) refl (omega arith)
-
--- the maps, and then the points
-module _ (s : List ℕ) (at : ℕ) (out : List Float) where
-  pub maps_refused : (n : ℕ) → loaded.Refused n ≡ read_maps s at → (loaded.Refused n ≡ load_answer s at out) × (out ≡ load_buffer s at out)
-  unfolding load_answer load_buffer read_route read_points
-  maps_refused n e = (rw (← e), rw (← e))
-
-  pub maps_given : (m from : ℕ) → loaded.Read m from ≡ read_maps s at → (l : Loaded) (after : List Float) → Loads s from m out l after
-      → (l ≡ load_answer s at out) × (after ≡ load_buffer s at out)
-  unfolding load_answer load_buffer read_route
-  maps_given m from e l after g = (rw (← e) g.0, rw (← e) g.1)
+    pub no_room : length out < n → (Err refusal.TooLittleRoom ≡ answer_to Found out) × (out ≡ buffer_to Found out)
+    no_room k =
+        let no = lt-leb (length Numbers) (length out) (rw (numbers_long n (drop maps.next s)) k) in
+        (rw (found, no), rw (found, no))
 
 -- ---- writing
 
@@ -120,25 +65,19 @@ pub record_size : (r : Route) → length (route_record r) ≡ length (maps_bytes
 unfolding route_record
 record_size r = length-append (maps_bytes r.map) (number_bytes r.numbers) ∙ omega (arith, bytes_size r.numbers)
 
--- m is the map, r its refusal
-module _ (out : List ℕ) (at m : ℕ) (numbers : List Float) (r : ℕ) (er : r ≡ map_refusal m) where
-  abbrev Gives : Written → List ℕ → Type 0
+-- r is what the map is found to be
+module _ (out : List ℕ) (at m : ℕ) (numbers : List Float) where
+  abbrev Gives : Result ℕ Refusal → List ℕ → Type 0
   Gives w after = (w ≡ write_answer out at m numbers) × (after ≡ write_buffer out at m numbers)
 
-  bad : (r ≡ 0 → ⊥) → Gives (written.Refused r) out
+  pub write_bad : (e : Refusal) → Err e ≡ check_map m → Gives (Err e) out
   unfolding write_answer write_buffer
-  bad q = (rw (← er, ne_eqb r 0 q), rw (← er, ne_eqb r 0 q))
+  write_bad e q = (rw (← q), rw (← q))
 
-  pub write_bad : 0 < r → Gives (written.Refused r) out
-  write_bad q = bad (λ (z : r ≡ 0). omega arith)
-
-  module _ (z : r ≤ 0) (n : ℕ) (en : n ≡ number_count m) where
-    none : map_refusal m ≡ 0
-    none = omega (arith, er)
-
-    pub write_short : length numbers < n → Gives (written.Refused 5) out
+  module _ (ok : Ok tt ≡ check_map m) (n : ℕ) (en : n ≡ number_count m) where
+    pub write_short : length numbers < n → Gives (Err refusal.TooFewBytes) out
     unfolding write_answer write_buffer
-    write_short h = (rw (none, ← en, lt-leb n (length numbers) h), rw (none, ← en, lt-leb n (length numbers) h))
+    write_short h = (rw (← ok, ← en, lt-leb n (length numbers) h), rw (← ok, ← en, lt-leb n (length numbers) h))
 
     -- k is the size of the maps
     module _ (h : n ≤ length numbers) (k : ℕ) (ek : k ≡ length (maps_bytes m)) where
@@ -148,15 +87,28 @@ module _ (out : List ℕ) (at m : ℕ) (numbers : List Float) (r : ℕ) (er : r 
       size_is : k + 4 * n ≡ length R
       size_is = sym (record_size (record { map = m; numbers = take n numbers }) ∙ rw (length-take-le n numbers h, ← ek))
 
-      settled : (w : Written) (after : List ℕ) → (w ≡ answer_of out at R) × (after ≡ buffer_of out at R) → Gives w after
+      settled : (w : Result ℕ Refusal) (after : List ℕ) → (w ≡ answer_of out at R) × (after ≡ buffer_of out at R) → Gives w after
       unfolding write_answer write_buffer
-      settled w after g = (rw (none, ← en, le-leb n (length numbers) h) g.0, rw (none, ← en, le-leb n (length numbers) h) g.1)
+      settled w after g = (rw (← ok, ← en, le-leb n (length numbers) h) g.0, rw (← ok, ← en, le-leb n (length numbers) h) g.1)
 
-      pub write_full : length out < at + (k + 4 * n) → Gives (written.Refused 8) out
-      write_full q = settled _ _ (write.refused out at R (k + 4 * n) size_is q)
+      pub write_full : has_bytes out at (k + 4 * n) ≡ false → Gives (Err refusal.TooLittleRoom) out
+      write_full q = settled _ _ (write.refused out at R (k + 4 * n) size_is (leb-false _ _ q))
 
-      pub writes : at + (k + 4 * n) ≤ length out → (p : List ℕ)
-          → p ≡ put_at (take (length out - at) (drop at out)) 0 (maps_bytes m ++ number_bytes (take n numbers))
-          → Gives (written.Next (at + (k + 4 * n))) (put_mid at (length out - at) out p)
-      unfolding route_record
-      writes q p e = settled _ _ (write.accepted out at R (k + 4 * n) size_is q p e)
+      -- there is room; q is what the maps' writing left of the part, p what the numbers' left
+      module _ (room : has_bytes out at (k + 4 * n) ≡ true) where
+        abbrev Part : List ℕ
+        Part = take (length out - at) (drop at out)
+
+        pub part_long : k + 4 * n ≤ length Part
+        part_long = rw (rest_is out at) (simp length-drop (omega (arith, leb-true (at + (k + 4 * n)) (length out) room)))
+
+        module _ (q : List ℕ) (eq : q ≡ maps_bytes m ++ drop (length (maps_bytes m)) Part) where
+          pub numbers_fit : k + 4 * length (take n numbers) ≤ length q
+          numbers_fit = rw (length-take-le n numbers h, eq) (simp (length-append, length-drop) (omega (arith, part_long, ek)))
+
+          pub writes : (p : List ℕ) → p ≡ put_at q k (number_bytes (take n numbers)) → Gives (Ok (at + (k + 4 * n))) (put_mid at (length out - at) out p)
+          unfolding route_record
+          writes p e =
+              settled _ _
+              (write.accepted out at R (k + 4 * n) size_is (leb-true (at + (k + 4 * n)) (length out) room) p
+              (put_after k Part q p (maps_bytes m) (number_bytes (take n numbers)) (sym ek) (omega (arith, part_long)) (rw (← ek) at eq) e))

@@ -1,4 +1,5 @@
 -- The laws of the route record. Assumes nothing.
+use Rattle.std.specs.Prelude.{Result, Ok, Err}
 use mathlib.Core.Path.{◌≡◌, refl, sym, ap, subst, ◌∙◌}
 use mathlib.Core.Bool.{Bool, true, false, cond, not, ◌&&◌}
 use mathlib.Core.List.{List, [], ◌∷◌, ◌++◌, append_assoc}
@@ -21,11 +22,12 @@ use Rattle.fields.proofs.NumberLaw.{number_back, drop_bytes, not-false}
 use Rattle.fields.proofs.FieldLaw.{ones_le, ones_below}
 use Rattle.fields.proofs.LawsProof.{laws}
 use Rattle.route_records.specs.declared.Loaded.{Loaded}
-use Rattle.route_records.specs.declared.Loaded.TheVariants as loaded
+use Rattle.refusals.specs.declared.Refusal.{Refusal}
+use Rattle.refusals.specs.declared.Refusal.TheVariants as refusal
 use Rattle.route_records.specs.Record.{
   Route,
   number_count,
-  map_refusal,
+  check_map,
   joined,
   one_map,
   two_maps,
@@ -33,7 +35,6 @@ use Rattle.route_records.specs.Record.{
   read_points,
   numbers_at,
   all_finite,
-  refused,
   read,
   read_route,
   number_bytes,
@@ -60,12 +61,12 @@ use Rattle.route_records.proofs.RecordLaw.{record_size}
 
 -- ---- a map that is not refused
 
-count_le : (m : ℕ) → map_refusal m ≡ 0 → number_count m ≤ 248
+count_le : (m : ℕ) → check_map m ≡ Ok tt → number_count m ≤ 248
 unfolding number_count
 count_le m e = omega (arith, ones_below 62 2 m (map_is m e).0, ones_le 62 m)
 
-not_refused : (m : ℕ) → m < 2 ^ 62 → (m ≡ 0 → ⊥) → map_refusal m ≡ 0
-unfolding map_refusal
+not_refused : (m : ℕ) → m < 2 ^ 62 → (m ≡ 0 → ⊥) → check_map m ≡ Ok tt
+unfolding check_map
 not_refused m h z = rw (lt-ltb m (2 ^ 62) h, ne_eqb m 0 z)
 
 -- ---- where a record stands
@@ -79,8 +80,8 @@ numbers_back (x ∷ xs) rest h =
     rw (append_assoc (bytes_of 4 b) (number_bytes xs) rest, drop_bytes 4 b (number_bytes xs ++ rest), number_back 4 b (number_bytes xs ++ rest) below, of_bits-to_bits binary32 x h.0)
     (ap (λ (l : List Float). x ∷ l) (numbers_back xs rest h.1))
 
-module _ (s : List ℕ) (at m : ℕ) (rest : List ℕ) (e : drop at s ≡ maps_bytes m ++ rest) (ok : map_refusal m ≡ 0) where
-  one_stands : m < 2 ^ 31 → read_maps s at ≡ loaded.Read m (at + 4)
+module _ (s : List ℕ) (at m : ℕ) (rest : List ℕ) (e : drop at s ≡ maps_bytes m ++ rest) (ok : check_map m ≡ Ok tt) where
+  one_stands : m < 2 ^ 31 → read_maps s at ≡ Ok (record { map = m; next = at + 4 })
   unfolding read_maps one_map
   one_stands h =
       rw (
@@ -90,7 +91,7 @@ module _ (s : List ℕ) (at m : ℕ) (rest : List ℕ) (e : drop at s ≡ maps_b
         ne_eqb m 0 (map_is m ok).1,
       )
 
-  two_stand : 2 ^ 31 ≤ m → read_maps s at ≡ loaded.Read m (at + 8)
+  two_stand : 2 ^ 31 ≤ m → read_maps s at ≡ Ok (record { map = m; next = at + 8 })
   unfolding read_maps two_maps
   two_stand h =
       let a = 2 ^ 31 + m % 2 ^ 31 in
@@ -110,7 +111,7 @@ module _ (s : List ℕ) (at m : ℕ) (rest : List ℕ) (e : drop at s ≡ maps_b
         back,
       )
 
-  pub maps_stand : read_maps s at ≡ loaded.Read m (at + length (maps_bytes m))
+  pub maps_stand : read_maps s at ≡ Ok (record { map = m; next = at + length (maps_bytes m) })
   maps_stand =
       either m (λ (h : m < 2 ^ 31). one_stands h ∙ rw (one_map_long m h)) (λ (h : 2 ^ 31 ≤ m). two_stand h ∙ rw (two_maps_long m h))
 
@@ -188,15 +189,15 @@ unfolding numbers_at AreF32
 numbers_are zero s = tt
 numbers_are (suc n) s = (of_bits-fits binary32 (number_at 4 s), numbers_are n (drop 4 s))
 
-no_read : {A : Type 0} (k : ℕ) (r : Route) (next : ℕ) → refused k ≡ read r next → A
-no_read k r next e = let z : ◌≡◌ {A = ℕ} 0 1 = cc in absurd (omega arith)
+no_read : {A B : Type 0} (e : Refusal) (v : B) → ◌≡◌ {A = Result B Refusal} (Err e) (Ok v) → A
+no_read e v q = absurd (cc)
 
-no_maps : {A : Type 0} (k m from : ℕ) → loaded.Refused k ≡ loaded.Read m from → A
-no_maps k m from e = let z : ◌≡◌ {A = ℕ} 0 1 = cc in absurd (omega arith)
+pub read_is : {B : Type 0} (v w : B) → ◌≡◌ {A = Result B Refusal} (Ok v) (Ok w) → v ≡ w
+read_is v w e = cc
 
 -- maps that were read
 record MapsRead (s : List ℕ) (at m from : ℕ) : Type 0 where
-  pub ok : map_refusal m ≡ 0
+  pub ok : check_map m ≡ Ok tt
   pub place : from ≡ at + length (maps_bytes m)
   pub bytes : AreBytes s → maps_bytes m ≡ take (length (maps_bytes m)) (drop at s)
 
@@ -236,38 +237,36 @@ module _ (s : List ℕ) (at m from : ℕ) where
       }
 
   one_found : at + 4 ≤ length s → First < 2 ^ 31 → (z : Bool) → eqb First 0 ≡ z
-      → cond z (loaded.Refused 10) (loaded.Read First (at + 4)) ≡ loaded.Read m from → MapsRead s at m from
-  one_found l low true q w = no_maps 10 m from w
+      → cond {A = Result Loaded Refusal} z (Err refusal.NoPoint) (Ok (record { map = First; next = at + 4 })) ≡ Ok (record { map = m; next = from }) → MapsRead s at m from
+  one_found l low true q w = no_read refusal.NoPoint (record { map = m; next = from }) w
   one_found l low false q w =
-      let map : First ≡ m = cc in
-      let place : at + 4 ≡ from = cc in
-      one_read l low (eqb-false First 0 q) map place
+      let same = read_is (record { map = First; next = at + 4 }) (record { map = m; next = from }) w in
+      one_read l low (eqb-false First 0 q) (ap (λ (x : Loaded). x.map) same) (ap (λ (x : Loaded). x.next) same)
 
   two_found : 2 ^ 31 ≤ First → (c d y : Bool) → has_bytes s at 8 ≡ c → ltb Second (2 ^ 31) ≡ d → eqb Second 0 ≡ y
-      → cond (not c) (loaded.Refused 5) (cond (not d) (loaded.Refused 6) (cond y (loaded.Refused 6) (loaded.Read (joined First Second) (at + 8)))) ≡ loaded.Read m from
+      → cond {A = Result Loaded Refusal} (not c) (Err refusal.TooFewBytes) (cond (not d) (Err refusal.UnknownMap) (cond y (Err refusal.UnknownMap) (Ok (record { map = joined First Second; next = at + 8 })))) ≡ Ok (record { map = m; next = from })
       → MapsRead s at m from
-  two_found high true true true p q r w = no_maps 6 m from w
+  two_found high true true true p q r w = no_read refusal.UnknownMap (record { map = m; next = from }) w
   two_found high true true false p q r w =
-      let map : joined First Second ≡ m = cc in
-      let place : at + 8 ≡ from = cc in
-      two_read (leb-true _ _ p) high (ltb-true Second (2 ^ 31) q) (eqb-false Second 0 r) map place
-  two_found high true false y p q r w = no_maps 6 m from w
-  two_found high false d y p q r w = no_maps 5 m from w
+      let same = read_is (record { map = joined First Second; next = at + 8 }) (record { map = m; next = from }) w in
+      two_read (leb-true _ _ p) high (ltb-true Second (2 ^ 31) q) (eqb-false Second 0 r) (ap (λ (x : Loaded). x.map) same) (ap (λ (x : Loaded). x.next) same)
+  two_found high true false y p q r w = no_read refusal.UnknownMap (record { map = m; next = from }) w
+  two_found high false d y p q r w = no_read refusal.TooFewBytes (record { map = m; next = from }) w
 
-  maps_read : read_maps s at ≡ loaded.Read m from → MapsRead s at m from
+  maps_read : read_maps s at ≡ Ok (record { map = m; next = from }) → MapsRead s at m from
   unfolding read_maps one_map two_maps
   maps_read e = go (has_bytes s at 4) refl (ltb First (2 ^ 31)) refl e
     where
       go : (a : Bool) → has_bytes s at 4 ≡ a → (b : Bool) → ltb First (2 ^ 31) ≡ b
-          → cond (not a) (loaded.Refused 5)
-          (cond b (cond (eqb First 0) (loaded.Refused 10) (loaded.Read First (at + 4)))
-          (cond (not (has_bytes s at 8)) (loaded.Refused 5)
-          (cond (not (ltb Second (2 ^ 31))) (loaded.Refused 6)
-          (cond (eqb Second 0) (loaded.Refused 6) (loaded.Read (joined First Second) (at + 8)))))) ≡ loaded.Read m from
+          → cond {A = Result Loaded Refusal} (not a) (Err refusal.TooFewBytes)
+          (cond b (cond (eqb First 0) (Err refusal.NoPoint) (Ok (record { map = First; next = at + 4 })))
+          (cond (not (has_bytes s at 8)) (Err refusal.TooFewBytes)
+          (cond (not (ltb Second (2 ^ 31))) (Err refusal.UnknownMap)
+          (cond (eqb Second 0) (Err refusal.UnknownMap) (Ok (record { map = joined First Second; next = at + 8 })))))) ≡ Ok (record { map = m; next = from })
           → MapsRead s at m from
       go true p true q w = one_found (leb-true _ _ p) (ltb-true First (2 ^ 31) q) (eqb First 0) refl w
       go true p false q w = two_found (ltb-false First (2 ^ 31) q) (has_bytes s at 8) (ltb Second (2 ^ 31)) (eqb Second 0) refl refl refl w
-      go false p b q w = no_maps 5 m from w
+      go false p b q w = no_read refusal.TooFewBytes (record { map = m; next = from }) w
 
 -- a route that was read: its maps, and its numbers from the place after them
 record Whole (s : List ℕ) (at : ℕ) (r : Route) (next : ℕ) : Type 0 where
@@ -283,23 +282,23 @@ module _ (s : List ℕ) (at : ℕ) (r : Route) (next : ℕ) where
   Numbers m from = numbers_at (number_count m) (drop from s)
 
   points : (m from : ℕ) → MapsRead s at m from → (d f : Bool) → has_bytes s from (4 * number_count m) ≡ d → all_finite (Numbers m from) ≡ f
-      → cond (not d) (refused 5) (cond (not f) (refused 11) (read (record { map = m; numbers = Numbers m from }) (from + 4 * number_count m))) ≡ read r next
+      → cond (not d) (Err refusal.TooFewBytes) (cond (not f) (Err refusal.PointNotFinite) (read (record { map = m; numbers = Numbers m from }) (from + 4 * number_count m))) ≡ read r next
       → Whole s at r next
   points m from k true true p q w =
-      let same : record { map = m; numbers = Numbers m from } ≡ r = cc in
-      let ends : next ≡ from + 4 * number_count m = cc in
-      subst (λ (x : Route). Whole s at x next) same
-      (record { from = from; maps = k; fits = leb-true _ _ p; numbers = refl; finite = q; ends = ends })
-  points m from k true false p q w = no_read 11 r next w
-  points m from k false f p q w = no_read 5 r next w
+      let same = read_is (record { map = m; numbers = Numbers m from }, from + 4 * number_count m) (r, next) w in
+      subst (λ (x : Route × ℕ). Whole s at x.0 x.1) same
+      (record { from = from; maps = k; fits = leb-true _ _ p; numbers = refl; finite = q; ends = refl })
+  points m from k true false p q w = no_read refusal.PointNotFinite (r, next) w
+  points m from k false f p q w = no_read refusal.TooFewBytes (r, next) w
 
   whole : read_route s at ≡ read r next → Whole s at r next
   unfolding read_route read_points
   whole e = go (read_maps s at) refl e
     where
-      go : (l : Loaded) → read_maps s at ≡ l → read_points l s ≡ read r next → Whole s at r next
-      go (loaded.Refused n) q w = no_read n r next w
-      go (loaded.Read m from) q w = points m from (maps_read s at m from q) (has_bytes s from (4 * number_count m)) (all_finite (Numbers m from)) refl refl w
+      go : (l : Result Loaded Refusal) → read_maps s at ≡ l → read_points l s ≡ read r next → Whole s at r next
+      go (Err e) q w = no_read e (r, next) w
+      go (Ok l) q w =
+          points l.map l.next (maps_read s at l.map l.next q) (has_bytes s l.next (4 * number_count l.map)) (all_finite (Numbers l.map l.next)) refl refl w
 
 module _ (s : List ℕ) (at : ℕ) (r : Route) (next : ℕ) (e : read_route s at ≡ read r next) where
   pub held : IsRoute r
@@ -332,7 +331,7 @@ module _ (s : List ℕ) (at : ℕ) (r : Route) (next : ℕ) (e : read_route s at
       record_is r ∙ rw (numbers, size) (ap (λ (l : List ℕ). l ++ take (4 * n) (drop k t)) (w.maps.bytes h) ∙ sym (take-add k (4 * n) t))
 
 one : (v w : Route) (a b : ℕ) → read v a ≡ read w b → v ≡ w
-one v w a b e = cc
+one v w a b e = ap (λ (x : Route × ℕ). x.0) (read_is (v, a) (w, b) e)
 
 pub route_laws : RouteLaws
 route_laws = laws IsRoute route_record read_route read stands_at held no_longer one
@@ -354,11 +353,11 @@ all_finite_lem zero = refl
 all_finite_lem (suc n) = all_finite_lem n
 
 longest_is : IsRoute Longest
-unfolding map_refusal number_count ones
+unfolding check_map number_count ones
 longest_is = record { map = refl; long = length-replicate 248 n0; held = all_held 248; finite = all_finite_lem 248 }
 
 -- the maps and the numbers of a route that is not refused
-size-le : (r : Route) → map_refusal r.map ≡ 0 → length (maps_bytes r.map) + 4 * number_count r.map ≤ 1000
+size-le : (r : Route) → check_map r.map ≡ Ok tt → length (maps_bytes r.map) + 4 * number_count r.map ≤ 1000
 size-le r ok =
     either r.map
     (λ (h : r.map < 2 ^ 31). omega (arith, one_map_long r.map h, count_le r.map ok))

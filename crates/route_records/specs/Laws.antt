@@ -1,17 +1,15 @@
 -- The laws of the route record, for every route. Statements only; proofs/RouteBack.antt and Older.antt prove them.
-use Rattle.std.specs.Prelude.{◌≡◌, true, List, [], ◌∷◌, ◌++◌, ℕ, ◌+◌, ◌-◌, ◌/◌, ◌%◌, ◌≤◌, ◌<◌, ◌^◌, length, take, drop, Float}
+use Rattle.std.specs.Prelude.{◌≡◌, true, List, [], ◌∷◌, ◌++◌, ℕ, ◌+◌, ◌-◌, ◌/◌, ◌%◌, ◌≤◌, ◌<◌, ◌^◌, length, take, drop, Float, Ok, Err}
 use Rattle.fields.specs.Fields.{ones}
 use Rattle.fields.specs.Numbers.{AreF32}
 use Rattle.fields.specs.Laws.{Laws}
-use Rattle.fields.specs.declared.Written.TheVariants as written
-use Rattle.route_records.specs.declared.Loaded.TheVariants as loaded
+use Rattle.refusals.specs.declared.Refusal.TheVariants as refusal
 use Rattle.route_records.specs.Record.{
   Route,
   number_count,
-  map_refusal,
+  check_map,
   joined,
   all_finite,
-  refused,
   read_route,
   read,
   answer_to,
@@ -24,7 +22,7 @@ use Rattle.route_records.specs.Older.{older_read_route, older_route_record}
 
 -- a route as loading makes it: a map that is not refused, four numbers for each standing point, each finite
 pub record IsRoute (r : Route) : Type 0 where
-  pub map : map_refusal r.map ≡ 0
+  pub map : check_map r.map ≡ Ok tt
   pub long : length r.numbers ≡ number_count r.map
   pub held : AreF32 r.numbers
   pub finite : all_finite r.numbers ≡ true
@@ -59,10 +57,10 @@ pub record StoredKept (s : List ℕ) (at : ℕ) (r : Route) (next : ℕ) : Type 
 pub record OlderDisplay : Type 0 where
   pub stored : (s : List ℕ) (at : ℕ) (r : Route) (next : ℕ) → older_read_route s at ≡ read r next → StoredKept s at r next
   pub long :
-      (s : List ℕ) (at : ℕ) (r : Route) (rest : List ℕ) → 2 ^ 31 ≤ r.map → drop at s ≡ route_record r ++ rest → older_read_route s at ≡ refused 6
+      (s : List ℕ) (at : ℕ) (r : Route) (rest : List ℕ) → 2 ^ 31 ≤ r.map → drop at s ≡ route_record r ++ rest → older_read_route s at ≡ Err refusal.UnknownMap
   pub written :
-      (out : List ℕ) (at m : ℕ) (numbers : List Float) (next : ℕ) → 2 ^ 31 ≤ m → write_answer out at m numbers ≡ written.Next next
-      → older_read_route (write_buffer out at m numbers) at ≡ refused 6
+      (out : List ℕ) (at m : ℕ) (numbers : List Float) (next : ℕ) → 2 ^ 31 ≤ m → write_answer out at m numbers ≡ Ok next
+      → older_read_route (write_buffer out at m numbers) at ≡ Err refusal.UnknownMap
   pub unseen :
-      (s : List ℕ) (at : ℕ) (out : List Float) → older_read_route s at ≡ refused 6
-      → (answer_to (older_read_route s at) out ≡ loaded.Refused 6) × (buffer_to (older_read_route s at) out ≡ out)
+      (s : List ℕ) (at : ℕ) (out : List Float) → older_read_route s at ≡ Err refusal.UnknownMap
+      → (answer_to (older_read_route s at) out ≡ Err refusal.UnknownMap) × (buffer_to (older_read_route s at) out ≡ out)

@@ -1,28 +1,26 @@
--- A route's points among lent numbers, and each case of the test, of the waypoint and of lent numbers' refusal. Assumes nothing.
-use mathlib.Core.Path.{◌≡◌, refl, ap, ◌∙◌}
-use mathlib.Core.Bool.{Bool, true, false, cond, not}
-use mathlib.Core.List.{List}
-use Prim.Native.Nat.{ℕ, zero, suc, ◌+◌, ◌-◌, ◌*◌, ◌/◌, ◌%◌, ◌<◌, ◌≤◌, ◌^◌}
+-- A route's points among lent numbers, and what is known of numbers that are not refused. Assumes nothing.
+use Rattle.std.specs.Prelude.{Result, Ok, Err, Float}
+use Rattle.std.specs.Result.{result_and}
+use mathlib.Core.Path.{◌≡◌, refl, sym, ap, ◌∙◌}
+use mathlib.Core.Bool.{cond}
+use mathlib.Core.List.{List, [], ◌∷◌}
+use Prim.Native.Nat.{ℕ, zero, suc, ◌-◌, ◌≤◌}
 use native.Mathlib.Omega.{arith}
-use native.Mathlib.Nat.{pow-suc}
-use borrow.Author.Tests.{le-leb, lt-leb, eq-eqb, ne_eqb, leb-true, eqb-true, eqb-false}
-use lib.Dec.{eqb, leb}
-use lib.ListN.{length, drop, get_or}
-use lib.Seq.{get_or-drop}
-use lib.Ieee.{Float, nan}
-use Rattle.arithmetic.specs.declared.vector.Vec2.{Vec2}
-use Rattle.laws.specs.declared.types.OptionVec2.TheVariants as Leg
+use lib.Dec.{leb}
+use lib.ListN.{length, drop, take, get_or}
+use Rattle.std.proofs.lemmas.List.{get_or-take}
+use Rattle.std.proofs.Math.ListN.{get_or-map}
+use lib.Ieee.{nan}
+use Rattle.std.specs.Simd.{first_chunks}
+use Rattle.refusals.specs.declared.Refusal.{Refusal}
+use Rattle.refusals.specs.declared.Refusal.TheVariants as refusal
 use Rattle.fields.specs.Fields.{ones}
-use Rattle.fields.proofs.FieldLaw.{ones_le, ones_below}
-use Rattle.route_records.specs.Record.{map_refusal, number_count}
+use Rattle.fields.proofs.FieldLaw.{ones_le, ones_below, ones_all}
 use Rattle.route_records.proofs.MapsLaw.{map_is}
-use Rattle.routes.specs.Route.{point_at, points_of, no_point, numbered, is_near, leg_to, is_passed, meets, fly_to, waypoint_for, lent_refusal}
-
-pub positive : {n : ℕ} → 0 < n → eqb n 0 ≡ false
-positive {n} h = ne_eqb n 0 (λ (z : n ≡ 0). omega arith)
-
-pub nothing : {n : ℕ} → n ≤ 0 → eqb n 0 ≡ true
-nothing {n} h = eq-eqb n 0 (omega arith)
+use Rattle.std.proofs.lemmas.Nat.{zero_from_ones}
+use Rattle.route_records.specs.Record.{check_map, number_count}
+use Rattle.routes.specs.Route.{point_at, points_of, standing, no_point, numbered, check_lent}
+use Rattle.routes.specs.declared.Point.{Point}
 
 -- ---- points
 
@@ -31,102 +29,41 @@ unfolding points_of
 points_long zero v = refl
 points_long (suc n) v = ap suc (points_long n (drop 4 v))
 
-shifted : (v : List Float) (i : ℕ) → point_at (drop 4 v) i ≡ point_at v (suc i)
+-- a point's numbers are the first four
+first_four : (v : List Float) → point_at (take 4 v) 0 ≡ point_at v 0
 unfolding point_at
-shifted v i =
-    let a : 4 + 4 * i ≡ 4 * suc i = omega arith in
-    let b : 4 + (4 * i + 1) ≡ 4 * suc i + 1 = omega arith in
-    let c : 4 + (4 * i + 2) ≡ 4 * suc i + 2 = omega arith in
-    let d : 4 + (4 * i + 3) ≡ 4 * suc i + 3 = omega arith in
-    rw (get_or-drop 4 v (4 * i) nan, get_or-drop 4 v (4 * i + 1) nan, get_or-drop 4 v (4 * i + 2) nan, get_or-drop 4 v (4 * i + 3) nan, a, b, c, d)
+first_four v = rw (get_or-take 4 v 0 nan (omega arith), get_or-take 4 v 1 nan (omega arith), get_or-take 4 v 2 nan (omega arith), get_or-take 4 v 3 nan (omega arith))
 
-points_at : (n i : ℕ) (v : List Float) → i < n → get_or (points_of n v) i no_point ≡ point_at v i
+pub standing_is : (n k : ℕ) (v : List Float) → n ≤ k → standing (take n (first_chunks 4 k v)) ≡ points_of n v
 unfolding points_of
-points_at zero i v h = absurd (omega arith)
-points_at (suc n) zero v h = refl
-points_at (suc n) (suc i) v h = points_at n i (drop 4 v) (omega arith) ∙ shifted v i
+standing_is zero k v h = refl
+standing_is (suc n) zero v h = absurd (omega arith)
+standing_is (suc n) (suc k) v h = rw (first_four v) (ap (λ (ps : List Point). point_at v 0 ∷ ps) (standing_is n k (drop 4 v) (omega arith)))
 
-pub numbered_is : (n k : ℕ) (v : List Float) → 1 ≤ k → k ≤ n → numbered (points_of n v) k ≡ point_at v (k - 1)
-unfolding numbered
-numbered_is n k v h l = points_at n (k - 1) v (omega arith)
-
--- ---- the test
-
-module _ (radius : Float) (v : List Float) (points n : ℕ) (position : Vec2) where
-  pub meets_first : n ≡ 1 → 1 ≤ points → is_near (point_at v 0) position radius ≡ meets radius (points_of points v) n position
-  unfolding meets
-  meets_first e h = rw (eq-eqb n 1 e, numbered_is points 1 v (omega arith) h)
-
-  pub meets_leg : (n ≡ 1 → ⊥) → 1 ≤ n → n ≤ points → is_passed (point_at v (n - 2)) (point_at v (n - 1)) position ≡ meets radius (points_of points v) n position
-  unfolding meets
-  meets_leg e h l =
-      let before : n - 1 - 1 ≡ n - 2 = omega arith in
-      rw (ne_eqb n 1 e, points_long points v, le-leb n points l, numbered_is points (n - 1) v (omega arith) (omega arith), numbered_is points n v h l, before)
-
-  pub meets_past : (n ≡ 1 → ⊥) → points < n → false ≡ meets radius (points_of points v) n position
-  unfolding meets
-  meets_past e l = rw (ne_eqb n 1 e, points_long points v, lt-leb n points l)
-
--- ---- the waypoint
-
-module _ (v : List Float) (points n : ℕ) where
-  pub waypoint_first : n ≡ 1 → 1 ≤ points → fly_to (point_at v 0) Leg.None ≡ waypoint_for (points_of points v) n
-  unfolding waypoint_for
-  waypoint_first e h = rw (eq-eqb n 1 e, numbered_is points 1 v (omega arith) h)
-
-  pub waypoint_leg : (n ≡ 1 → ⊥) → 1 ≤ n → n ≤ points
-      → fly_to (point_at v (n - 1)) (Leg.Some (leg_to (point_at v (n - 2)) (point_at v (n - 1)))) ≡ waypoint_for (points_of points v) n
-  unfolding waypoint_for
-  waypoint_leg e h l =
-      let before : n - 1 - 1 ≡ n - 2 = omega arith in
-      rw (ne_eqb n 1 e, points_long points v, le-leb n points l, numbered_is points (n - 1) v (omega arith) (omega arith), numbered_is points n v h l, before)
-
-  pub waypoint_past : (n ≡ 1 → ⊥) → points < n → 1 ≤ points → fly_to (point_at v (points - 1)) Leg.None ≡ waypoint_for (points_of points v) n
-  unfolding waypoint_for
-  waypoint_past e l h = rw (ne_eqb n 1 e, points_long points v, lt-leb n points l, numbered_is points points v h (omega arith))
+pub numbered_is : (vs : List (List Float)) (k : ℕ) → point_at (get_or vs (k - 1) []) 0 ≡ numbered (standing vs) k
+unfolding numbered no_point
+numbered_is vs k = sym (get_or-map (λ (v : List Float). point_at v 0) vs (k - 1) [])
 
 -- ---- lent numbers
 
-module _ (m long r : ℕ) (er : r ≡ map_refusal m) where
-  pub lent_map : 0 < r → r ≡ lent_refusal m long
-  unfolding lent_refusal
-  lent_map h = rw (← er, positive h)
-
-  module _ (h : r ≤ 0) (k : ℕ) (ek : k ≡ ones 64 m) where
-    pub lent_short : long < 4 * k → 5 ≡ lent_refusal m long
-    unfolding lent_refusal number_count
-    lent_short l = rw (← er, nothing h, ← ek, lt-leb (4 * k) long l)
-
-    pub lent_whole : 4 * k ≤ long → 0 ≡ lent_refusal m long
-    unfolding lent_refusal number_count
-    lent_whole l = rw (← er, nothing h, ← ek, le-leb (4 * k) long l)
-
--- a map below 2^n that is not 0 has a bit
-ones_some : (n m : ℕ) → 0 < m → m < 2 ^ n → 1 ≤ ones n m
-unfolding ones
-ones_some zero m h l = absurd (omega arith)
-ones_some (suc n) m h l = go (eqb (m % 2) 0) refl (λ (p : 0 < m / 2) (q : m / 2 < 2 ^ n). ones_some n (m / 2) p q)
-  where
-    go : (b : Bool) → eqb (m % 2) 0 ≡ b → (0 < m / 2 → m / 2 < 2 ^ n → 1 ≤ ones n (m / 2)) → 1 ≤ m % 2 + ones n (m / 2)
-    go true e ih =
-        let z : m % 2 ≡ 0 = eqb-true (m % 2) 0 e in
-        let p : 2 ^ suc n ≡ 2 ^ n * 2 = pow-suc 2 n in
-        omega (arith, ih (omega arith) (omega arith))
-    go false e ih = let z : m % 2 ≡ 0 → ⊥ = eqb-false (m % 2) 0 e in omega arith
-
-map_some : (m : ℕ) → map_refusal m ≡ 0 → (1 ≤ ones 64 m) × (ones 64 m ≤ 62)
-map_some m e =
+-- a map that is not refused names a point, and no more than sixty-two
+pub some_points : (m : ℕ) → check_map m ≡ Ok tt → 1 ≤ ones 64 m
+some_points m e =
     let low = (map_is m e).0 in
-    let some = (map_is m e).1 in
-    (ones_some 64 m (omega arith) (omega arith), omega (arith, ones_below 62 2 m low, ones_le 62 m))
+    let same = ones_all 64 m (omega arith) in
+    let some : ones 64 m ≡ 0 → ⊥ = λ (z : ones 64 m ≡ 0). (map_is m e).1 (zero_from_ones m (same ∙ z)) in
+    omega arith
 
--- numbers that are not refused: there is a point, each has its numbers, and there are no more than sixty-two
-pub lent_gives : (m long r : ℕ) → r ≡ lent_refusal m long → r ≤ 0 → (1 ≤ ones 64 m) × (4 * ones 64 m ≤ long) × (ones 64 m ≤ 62)
-unfolding lent_refusal number_count
-lent_gives m long r er h = go (eqb (map_refusal m) 0) refl (leb (4 * ones 64 m) long) refl er
+pub few_points : (m : ℕ) → check_map m ≡ Ok tt → ones 64 m ≤ 62
+few_points m e = omega (arith, ones_below 62 2 m (map_is m e).0, ones_le 62 m)
+
+-- lent numbers that are not refused, too
+pub lent_map : (m long : ℕ) → check_lent m long ≡ Ok tt → check_map m ≡ Ok tt
+unfolding check_lent
+lent_map m long e = go (check_map m) e
   where
-    go : (a : Bool) → eqb (map_refusal m) 0 ≡ a → (b : Bool) → leb (4 * ones 64 m) long ≡ b → r ≡ cond (not a) (map_refusal m) (cond b 0 5)
-        → (1 ≤ ones 64 m) × (4 * ones 64 m ≤ long) × (ones 64 m ≤ 62)
-    go true p true q e = let some = map_some m (eqb-true (map_refusal m) 0 p) in (some.0, leb-true (4 * ones 64 m) long q, some.1)
-    go true p false q e = absurd (omega arith)
-    go false p b q e = let no : map_refusal m ≡ 0 → ⊥ = eqb-false (map_refusal m) 0 p in absurd (omega arith)
+    go : (r : Result (Unit {0}) Refusal)
+        → ◌≡◌ {A = Result (Unit {0}) Refusal} (result_and r (cond (leb (number_count m) long) (Ok tt) (Err refusal.TooFewBytes))) (Ok tt)
+        → r ≡ Ok tt
+    go (Ok u) w = refl
+    go (Err why) w = cc

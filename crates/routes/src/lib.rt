@@ -1,17 +1,16 @@
 // A route flown: each call moves on by at most one point, then flies to the point that is reached.
 #![tactic(auto)]
 
-ghost use Rattle.std.specs.Prelude.{◌≡◌, ◌≤◌, ◌+◌, ◌*◌, length};
+ghost use Rattle.std.specs.Prelude.{◌≡◌, ◌≤◌, ◌+◌, ◌*◌, length, IfOk, IsTrue, MatchResult};
 ghost use Rattle.fields.specs.Fields.{ones};
 ghost use Rattle.routes.specs.Route as spec;
 
-use arithmetic::vector::{Vec2, dot, norm};
+use arithmetic::vector::{Vec2, difference, dot, norm};
 use fields::count;
 use guidance::plane::{Answer, Guided, PlaneGuidance};
-use laws::types::{
-    ControlInput, FlightRegime, OptionF32, OptionVec2, Vec3, VehicleState, WaypointCommand,
-};
-use route_records::map_refusal;
+use laws::types::{ControlInput, FlightRegime, VehicleState, WaypointCommand, north_east};
+use refusals::Refusal;
+use route_records::check_map;
 
 // A point of a route: metres north, east and up, and metres a second.
 #[derive(Clone, Copy)]
@@ -35,7 +34,7 @@ pub struct RouteCall {
     pub dt: f32,
     pub regime: FlightRegime,
     pub state: VehicleState,
-    pub cap: OptionF32,
+    pub cap: Option<f32>,
 }
 
 // The guidance and the route's number after a call, and the call's answer.
@@ -43,206 +42,193 @@ pub struct RouteCall {
 pub struct Flown {
     pub guidance: PlaneGuidance,
     pub number: u32,
-    pub answer: Answer,
+    pub answer: Result<Answer, Refusal>,
 }
 
-// Point i of those that stand, the first being 0.
-fn point_at(numbers: &[f32], i: usize) -> Point
-    requires { 4 * i + 4 ≤ length numbers.now }
-    ensures { result ≡ spec.point_at numbers.now i }
-{
-    let north = 4 * i;
-    let east = north + 1;
-    let altitude = north + 2;
-    let speed = north + 3;
-    Point {
-        north_m: numbers[north],
-        east_m: numbers[east],
-        altitude_m: numbers[altitude],
-        cruise_speed_mps: numbers[speed],
+// A route as it is flown: the numbers of its points, and the number of the point that is flown to, from 1 to one past the last.
+#[derive(Clone, Copy)]
+struct Course<'a> {
+    points: &'a [[f32; 4]],
+    number: usize,
+    ghost some: { 1 ≤ length points.now },
+    ghost few: { length points.now ≤ 62 },
+    ghost from_one: { 1 ≤ number },
+    ghost within: { number ≤ length points.now + 1 },
+}
+
+impl From<[f32; 4]> for Point {
+    ghost from_gives = { λ numbers p. p ≡ spec.point_at numbers 0 };
+
+    #[tactic(auto, unfolding(crate::specs::Route::point_at))]
+    fn from(numbers: [f32; 4]) -> Point {
+        let [north_m, east_m, altitude_m, cruise_speed_mps] = numbers;
+        Point {
+            north_m,
+            east_m,
+            altitude_m,
+            cruise_speed_mps,
+        }
     }
 }
 
-fn place(p: Point) -> Vec2
-    ensures { result ≡ spec.place p }
-{
-    Vec2 {
-        x: p.north_m,
-        y: p.east_m,
+impl Point {
+    fn place(self) -> Vec2
+        ensures { result ≡ spec.place self }
+    {
+        Vec2 {
+            x: self.north_m,
+            y: self.east_m,
+        }
+    }
+
+    // The leg from the point before.
+    fn leg_from(self, before: Point) -> Vec2
+        ensures { result ≡ spec.leg_to before self }
+    {
+        difference(self.place(), before.place())
+    }
+
+    // The position is within the loiter radius; NaN is not.
+    #[tactic(auto, unfolding(crate::specs::Route::is_near))]
+    fn is_near(self, position: Vec2, radius_m: f32) -> bool
+        ensures { result ≡ spec.is_near self position radius_m }
+    {
+        norm(difference(position, self.place())) <= radius_m
+    }
+
+    // The position is abeam of the point or past it, along the leg from the one before; NaN is not.
+    #[tactic(auto, unfolding(crate::specs::Route::is_passed))]
+    fn is_passed(self, before: Point, position: Vec2) -> bool
+        ensures { result ≡ spec.is_passed before self position }
+    {
+        let gone = difference(position, self.place());
+        dot(self.leg_from(before), gone) >= 0.0
+    }
+
+    fn waypoint(self, leg: Option<Vec2>) -> WaypointCommand
+        ensures { result ≡ spec.fly_to self leg }
+    {
+        WaypointCommand {
+            position_m: self.place(),
+            velocity_mps: leg,
+            altitude_m: self.altitude_m,
+            cruise_speed_mps: self.cruise_speed_mps,
+        }
     }
 }
 
-fn minus(a: Vec2, b: Vec2) -> Vec2
-    ensures { result ≡ spec.minus a b }
-{
-    Vec2 {
-        x: a.x - b.x,
-        y: a.y - b.y,
+impl<'a> Course<'a> {
+    // The points that a route's map names among lent numbers, which are refused by the map, or where they are fewer than it demands.
+    // A number of 0 counts as 1, one above one past the last point as that.
+    #[tactic(auto, using(crate::proofs::PointsLaw::standing_is), unfolding(crate::specs::Route::counted, crate::specs::Route::check_lent, route_records::specs::Record::number_count))]
+    fn new(route: Route, numbers: &'a [f32]) -> Result<Self, Refusal>
+        ensures lent { MatchResult result (λ _. spec.check_lent route.map (length numbers.now) ≡ Ok tt) (λ why. spec.check_lent route.map (length numbers.now) ≡ Err why) }
+        ensures points { IfOk result (λ c. spec.standing c.points.now ≡ spec.points_of (ones 64 route.map) numbers.now) }
+        ensures number { IfOk result (λ c. c.number ≡ spec.counted (ones 64 route.map) route.number) }
+    {
+        check_map(route.map)?;
+        let count = count(route.map);
+        let (all, _) = numbers.as_chunks();
+        if all.len() < count {
+            return Err(Refusal::TooFewBytes);
+        }
+        Ok(Course {
+            points: &all[..count],
+            number: (route.number as usize).clamp(1, count + 1),
+        })
     }
-}
 
-fn north_east(v: Vec3) -> Vec2
-    ensures { result ≡ spec.north_east v }
-{
-    Vec2 { x: v.x, y: v.y }
-}
+    // A point by its number, the first being 1.
+    #[tactic(auto, using(crate::proofs::PointsLaw::numbered_is))]
+    fn point(self, number: usize) -> Point
+        requires { (1 ≤ number) × (number ≤ length self.points.now) }
+        ensures { result ≡ spec.numbered (spec.standing self.entry.points.now) number }
+    {
+        Point::from(self.points[number - 1])
+    }
 
-// Within the loiter radius of the first point; NaN is not.
-fn is_near(p: Point, position: Vec2, radius_m: f32) -> bool
-    ensures { result ≡ spec.is_near p position radius_m }
-{
-    norm(minus(position, place(p))) <= radius_m
-}
+    // The test by which the number rises; one past the last point it is not met.
+    #[tactic(auto, unfolding(crate::specs::Route::meets))]
+    fn meets(self, position: Vec2, radius_m: f32) -> bool
+        ensures is { result ≡ spec.meets radius_m (spec.standing self.entry.points.now) self.entry.number position }
+        ensures room { IsTrue result → self.entry.number ≤ length self.entry.points.now }
+    {
+        let n = self.number;
+        if n == 1 {
+            return self.point(1).is_near(position, radius_m);
+        }
+        if n <= self.points.len() {
+            return self.point(n).is_passed(self.point(n - 1), position);
+        }
+        false
+    }
 
-// Abeam of a point or past it, along the leg from the one before; NaN is not.
-fn is_passed(before: Point, p: Point, position: Vec2) -> bool
-    ensures { result ≡ spec.is_passed before p position }
-{
-    let to = place(p);
-    let leg = minus(to, place(before));
-    let gone = minus(position, to);
-    dot(leg, gone) >= 0.0
-}
+    #[tactic(auto, unfolding(crate::specs::Route::reached))]
+    fn reached(self, position: Vec2, radius_m: f32) -> Self
+        ensures points { result.points ≡ self.entry.points }
+        ensures number { result.number ≡ spec.reached radius_m (spec.standing self.entry.points.now) self.entry.number position }
+    {
+        if self.meets(position, radius_m) {
+            return Course {
+                points: self.points,
+                number: self.number + 1,
+            };
+        }
+        self
+    }
 
-// The test by which the number rises; n counts from 1 to one past the last point.
-fn meets(numbers: &[f32], points: usize, n: usize, position: Vec2, radius_m: f32) -> bool
-    requires { (1 ≤ n) × (1 ≤ points) × (4 * points ≤ length numbers.now) }
-    ensures { result ≡ spec.meets radius_m (spec.points_of points numbers.now) n position }
-{
-    if n == 1 {
-        return is_near(point_at(numbers, 0), position, radius_m);
-    }
-    if n <= points {
-        let before = point_at(numbers, n - 2);
-        return is_passed(before, point_at(numbers, n - 1), position);
-    }
-    false
-}
-
-fn reached(numbers: &[f32], points: usize, n: usize, position: Vec2, radius_m: f32) -> usize
-    requires { (1 ≤ n) × (n ≤ points + 1) × (1 ≤ points) × (points ≤ 64) × (4 * points ≤ length numbers.now) }
-    ensures { (result ≡ spec.reached radius_m (spec.points_of points numbers.now) n position) × (1 ≤ result) × (result ≤ 66) }
-{
-    if meets(numbers, points, n, position, radius_m) {
-        return n + 1;
-    }
-    n
-}
-
-fn fly_to(p: Point, leg: OptionVec2) -> WaypointCommand
-    ensures { result ≡ spec.fly_to p leg }
-{
-    WaypointCommand {
-        position_m: place(p),
-        velocity_mps: leg,
-        altitude_m: p.altitude_m,
-        cruise_speed_mps: p.cruise_speed_mps,
-    }
-}
-
-// The waypoint of a number: at 1 the first point without a leg, one past the last the last point without one.
-fn waypoint_for(numbers: &[f32], points: usize, n: usize) -> WaypointCommand
-    requires { (1 ≤ n) × (1 ≤ points) × (4 * points ≤ length numbers.now) }
-    ensures { result ≡ spec.waypoint_for (spec.points_of points numbers.now) n }
-{
-    if n == 1 {
-        return fly_to(point_at(numbers, 0), OptionVec2::None);
-    }
-    if n <= points {
-        let before = point_at(numbers, n - 2);
-        let p = point_at(numbers, n - 1);
-        let leg = minus(place(p), place(before));
-        return fly_to(p, OptionVec2::Some(leg));
-    }
-    fly_to(point_at(numbers, points - 1), OptionVec2::None)
-}
-
-// A number of 0 counts as 1, one above one past the last point as that.
-fn counted(points: usize, number: u32) -> usize
-    requires { points ≤ 64 }
-    ensures { (result ≡ spec.counted points number) × (1 ≤ result) × (result ≤ points + 1) }
-{
-    let n = number as usize;
-    if n == 0 {
-        return 1;
-    }
-    if n <= points + 1 {
-        return n;
-    }
-    points + 1
-}
-
-// What lent numbers are refused with as a route: 6 or 10 by the map, 5 where they are fewer than it demands; or 0.
-fn lent_refusal(map: u64, length: usize) -> u8
-    ensures { result ≡ spec.lent_refusal map length }
-{
-    let refusal = map_refusal(map);
-    if 0 < refusal {
-        return refusal;
-    }
-    if length < 4 * count(map) {
-        return 5;
-    }
-    0
-}
-
-fn is_accepted(answer: Answer) -> bool
-    ensures { result ≡ spec.is_accepted answer }
-{
-    match answer {
-        Answer::Refused(n) => n == 0,
-        Answer::Commanded(_) => true,
-        Answer::Waypoint(_) => true,
+    // At 1 the first point without a leg, one past the last the last point without one.
+    #[tactic(auto, unfolding(crate::specs::Route::waypoint_for))]
+    fn waypoint(self) -> WaypointCommand
+        ensures { result ≡ spec.waypoint_for (spec.standing self.entry.points.now) self.entry.number }
+    {
+        let n = self.number;
+        if n == 1 {
+            return self.point(1).waypoint(None);
+        }
+        let last = self.points.len();
+        if n <= last {
+            let p = self.point(n);
+            return p.waypoint(Some(p.leg_from(self.point(n - 1))));
+        }
+        self.point(last).waypoint(None)
     }
 }
 
 // A refused call keeps the number.
+#[tactic(auto, unfolding(crate::specs::Route::settled))]
 fn settled(kept: u32, wanted: u32, done: Guided) -> Flown
     ensures { result ≡ spec.settled kept wanted done }
 {
-    let guidance = done.guidance;
-    let answer = done.answer;
-    if is_accepted(answer) {
-        Flown {
-            guidance,
-            number: wanted,
-            answer,
-        }
-    } else {
-        Flown {
-            guidance,
-            number: kept,
-            answer,
-        }
+    Flown {
+        guidance: done.guidance,
+        number: if done.answer.is_ok() { wanted } else { kept },
+        answer: done.answer,
     }
 }
 
+#[tactic(auto, unfolding(crate::specs::Route::fly))]
 pub fn fly(g: PlaneGuidance, route: Route, numbers: &[f32], call: RouteCall) -> Flown
     ensures { result ≡ spec.fly g route numbers.now call }
 {
-    let map = route.map;
-    let number = route.number;
-    let refusal = lent_refusal(map, numbers.len());
-    if 0 < refusal {
-        return Flown {
-            guidance: g,
-            number,
-            answer: Answer::Refused(refusal as u32),
-        };
-    }
-    let points = count(map);
-    let state = call.state;
-    let regime = call.regime;
-    let cap = call.cap;
-    let n = counted(points, number);
-    let m = reached(
-        numbers,
-        points,
-        n,
-        north_east(state.position_m),
-        g.config.loiter_radius_m,
+    let from = match Course::new(route, numbers) {
+        Ok(course) => course,
+        Err(why) => {
+            return Flown {
+                guidance: g,
+                number: route.number,
+                answer: Err(why),
+            };
+        }
+    };
+    let to = from.reached(north_east(call.state.position_m), g.config.loiter_radius_m);
+    let w = to.waypoint();
+    let done = g.guide_capped(
+        call.dt,
+        call.regime,
+        ControlInput::Waypoint(w),
+        call.state,
+        call.cap,
     );
-    let w = waypoint_for(numbers, points, m);
-    let done = g.guide_capped(call.dt, regime, ControlInput::Waypoint(w), state, cap);
-    settled(number, m as u32, done)
+    settled(route.number, to.number as u32, done)
 }

@@ -1,19 +1,15 @@
 -- `same_call` meets its contract, by the parts of both calls. Assumes nothing.
-use Rattle.agreement.proofs.Parts.{keeps_fit, values_same}
+use mathlib.Core.Path.{◌∙◌}
+use Rattle.agreement.proofs.Same.{same_numbers, same_truths}
+use Rattle.agreement.proofs.Parts.{values_same}
 use Rattle.agreement.proofs.same_call.Goals as goal
-
-pub same_bytes-present-requires : goal.same_bytes-present-requires
-same_bytes-present-requires c =
-    keeps_fit _ _ _ _
-    c.parts_of-p.ensures
-    c.parts_of-q.ensures
 
 pub returns : goal.returns
 returns c =
     values_same _ _ _ _
     c.parts_of-p.ensures
     c.parts_of-q.ensures
-    _ _ c.bits_of-a.ensures
-    c.bits_of-b.ensures _ _
-    c.same_numbers-numbers.ensures
-    c.same_bytes-present.ensures
+    _ _ c.bits_of.ensures
+    c.bits_of-2.ensures _ _
+    (c.eq.ensures ∙ same_numbers _ _)
+    (c.eq-2.ensures ∙ same_truths _ _)

@@ -1,14 +1,15 @@
 -- The steps of `agreement`'s code. Definitions only.
-use Rattle.std.specs.Prelude.{◌≡◌, false, cond, List, [], ◌∷◌, ℕ, ◌+◌, ◌-◌, ◌≤◌, ◌<◌, eqb}
-use Rattle.guidance.specs.declared.plane.PlaneGuidance.{PlaneGuidance}
+use Rattle.std.specs.Prelude.{◌≡◌, false, cond, List, [], ◌∷◌, ℕ, ◌+◌, ◌-◌, ◌≤◌, ◌<◌, eqb, IfSome, Option, Some, None, Result, Ok, Err}
 use Rattle.claims.specs.Calls.{replies, refusals, strikes, unmarked}
 use Rattle.replay.specs.Recording.{most_calls, read_calls}
 use Rattle.compaction.specs.Compaction.{calls_of}
-use Rattle.compaction.specs.declared.Decided.{Decided}
-use Rattle.compaction.specs.declared.Decided.TheVariants as ruling
+use Rattle.compaction.specs.declared.BadRecording.{BadRecording}
+use Rattle.compaction.specs.declared.Sound.{Sound}
 use Rattle.agreement.specs.Agreement.{Numbered, numbered, same_list, config_values, part_calls}
 use Rattle.agreement.specs.declared.Agreement.{Agreement}
 use Rattle.agreement.specs.declared.Agreement.TheVariants as answer
+use Rattle.agreement.specs.declared.Refused.{Refused}
+use Rattle.agreement.specs.declared.Side.{Side}
 use Rattle.agreement.specs.declared.Place.{Place}
 use Rattle.agreement.specs.declared.Told.{Told}
 
@@ -18,24 +19,23 @@ told s p =
     let ks = (read_calls (most_calls - p.number) s p.at).calls in
     unmarked (strikes p.fell (calls_of ks) (refusals (replies p.guidance (calls_of ks)))) (numbered (p.number + 1) ks)
 
--- the same with the call before the place
-unfoldable pub told_from : List ℕ → Told → List Numbered
-told_from s r = cond (eqb r.place.number 0) [] (record { number = r.place.number; call = r.call } ∷ told s r.place)
+-- the same from a remaining call on; none where no call remains
+abbrev pub told_from : List ℕ → Option Told → List Numbered
+told_from s None = []
+told_from s (Some r) = record { number = r.place.number; call = r.call } ∷ told s r.place
 
 -- the next remaining call after a place; its number is greater
-pub record Next (s : List ℕ) (p : Place) (r : Told) : Type 0 where
+pub record Next (s : List ℕ) (p : Place) (r : Option Told) : Type 0 where
   pub is : told s p ≡ told_from s r
-  pub most : r.place.number ≤ most_calls
-  pub rises : (r.place.number ≡ 0 → ⊥) → p.number < r.place.number
+  pub rises : IfSome r (λ q. (p.number < q.place.number) × (q.place.number ≤ most_calls))
 
-abbrev pub start : PlaneGuidance → ℕ → Place
-start g at = record { guidance = g; at = at; fell = false; number = 0 }
+abbrev pub start : Sound → Place
+start d = record { guidance = d.guidance; at = d.next; fell = false; number = 0 }
 
-unfoldable pub parted : List ℕ → PlaneGuidance → ℕ → List ℕ → PlaneGuidance → ℕ → Agreement
-parted s g at t h place =
-    cond (same_list (config_values g.config) (config_values h.config)) (part_calls (told s (start g at)) (told t (start h place))) (answer.Part 0 0)
+unfoldable pub parted : List ℕ → Sound → List ℕ → Sound → Agreement
+parted s d t e =
+    cond (same_list (config_values d.guidance.config) (config_values e.guidance.config)) (part_calls (told s (start d)) (told t (start e))) answer.PartAtConfig
 
-abbrev pub with_display : List ℕ → PlaneGuidance → ℕ → List ℕ → Decided → Agreement
-with_display s g at t (ruling.Refused f) = answer.Refused 2 f
-with_display s g at t (ruling.Stopped n r) = answer.Stopped 2 n r
-with_display s g at t (ruling.Sound h place) = parted s g at t h place
+abbrev pub decided_for : Side → Result Sound BadRecording → Result Sound Refused
+decided_for side (Ok d) = Ok d
+decided_for side (Err why) = Err (record { side = side; why = why })

@@ -3,24 +3,25 @@
 use mathlib.Core.Path.{◌≡◌, refl, sym, ap, ◌∙◌, subst}
 use Prim.Native.Nat.{ℕ, zero, suc, ◌+◌, ◌-◌, ◌*◌, ◌/◌, ◌%◌, ◌^◌, ◌≤◌, ◌<◌}
 use native.Mathlib.Nat.{le_trans, le_of_eq, le_of_suc-le-suc, lt_of_lt_of_le, lt_of_le_of_lt, lt_of_not-le, not-le_of_lt, lt_irrefl, le-suc}
-use native.Mathlib.Nat.{le_antisymm, add_comm, eq-or-lt_of_le, zero-lt-suc, mul-one, mul_assoc, mul_comm, mul_right_comm, suc-mul, mul-pos}
+use native.Mathlib.Nat.{le_antisymm, add_comm, eq-or-lt_of_le, zero-lt-suc, mul_assoc, mul_comm, mul_right_comm, suc-mul, mul-pos}
 use native.Mathlib.Nat.{mul-le-mul, mul-le-mul_right, mul-lt-mul_of_pos_right, lt_of_mul-lt-mul_right, mul-div_cancel, zero-mul}
 use native.Mathlib.Omega.{arith}
-use mathlib.Core.Bool.{Bool, true, false, not, ◌&&◌, true≢false}
+use mathlib.Core.Bool.{Bool, true, false, not, true≢false}
 use mathlib.Core.Logic.{◌⊎◌, inl, inr}
-use lib.IntN.{ℤ, pos, negsuc}
-use lib.Dec.{T, leb, ltb, eqb, leb→le, nleb→lt, ltb→lt, lt→ltb}
-use lib.Pow.{pow-add, pow_pos, pow_mono, pow-lt}
+use lib.IntN.{ℤ, pos}
+use lib.Dec.{T, leb, leb→le, nleb→lt, ltb→lt, lt→ltb}
+use lib.Pow.{pow-add, pow_pos, pow_mono}
 use lib.Count.{count_leading_zeros, leading_top}
-use lib.Ieee.{Float, nan, inf, fin, binary32, up, down, fits, of_bits, to_bits}
-use lib.Ieee.Bits.{of_bits-to_bits}
-use lib.Ieee.Fits.{and_l, and_r, down_pos}
+use lib.Ieee.{Float, nan, inf, fin, binary32, up, down, fits, sqrt}
+use lib.Ieee.Fits.{down_pos, sqrt-fits}
 use lib.Ieee.Exact.{HasValue}
 use lib.Ieee.Digits.{back}
 use Rattle.arithmetic.specs.Root.{floor_root, nearest_root, root_of, in_units, positive, unsigned, NearestToRoot, RootLaw, IsRoot}
+use Rattle.arithmetic.proofs.Rounding.{place, few_digits, not_too_small, not_too_large}
 use Rattle.arithmetic.proofs.root.Squares.{NearestWhole, Floor, floor_is, square_suc}
 use Rattle.arithmetic.proofs.root.Rounded.{root_after, root_before, root_least, value}
 use Rattle.arithmetic.proofs.root.Patterns.{same_value}
+use Rattle.arithmetic.proofs.root.Operation.{operation_of_value}
 use Rattle.arithmetic.proofs.root.Whole.{least, greatest, widened, half_power, regroup, root_of_value, nearest_fits}
 
 pow_lt_back : (i p : ℕ) → 2 ^ i < 2 ^ p → i < p
@@ -33,46 +34,8 @@ pub record Digits (n : ℕ) : Type 0 where
   pub is : n ≡ z * 2 ^ j
   pub small : z < 2 ^ 24
 
-place : (m : ℕ) (e : ℤ) → down e ≤ 2 ^ 149 → (j : ℕ) × (m * up e * 2 ^ 149 ≡ m * 2 ^ j * down e)
-place m (pos a) h = (a + 149, regroup m a 149 (a + 149) refl ∙ sym (mul-one (m * 2 ^ (a + 149))))
-place m (negsuc a) h =
-    let l : suc a ≤ 149 =
-    le_of_suc-le-suc (lt_of_not-le (λ (g : 150 ≤ suc a). lt_irrefl (2 ^ 149)
-    (lt_of_lt_of_le (pow-lt {i = 149} {j = 150} (omega arith)) (le_trans (pow_mono g) h)))) in
-    (149 - suc a, ap (λ (x : ℕ). x * 2 ^ 149) (mul-one m) ∙ sym (regroup m (149 - suc a) (suc a) 149 (back 149 (suc a) l)))
-
 whole : (m : ℕ) (e : ℤ) (n : ℕ) → m * up e * 2 ^ 149 ≡ n * down e → m * up e * 2 ^ 149 / down e ≡ n
 whole m e n h = ap (λ (x : ℕ). x / down e) h ∙ mul-div_cancel n (down_pos e)
-
--- what fitting says
-module _ (s : Bool) (m : ℕ) (e : ℤ) (h : T (fits binary32 (fin s (suc m) e))) where
-  parts : T (eqb (suc m % 2) 1 && ltb (suc m) (2 ^ 24) && leb (down e) (2 ^ 149) && ltb (suc m * up e) (2 ^ 128 * down e))
-  unfolding fits
-  parts = h
-
-  m_lt : suc m < 2 ^ 24
-  m_lt =
-      let A = eqb (suc m % 2) 1 in
-      let B = ltb (suc m) (2 ^ 24) in
-      let C = leb (down e) (2 ^ 149) in
-      let D = ltb (suc m * up e) (2 ^ 128 * down e) in
-      ltb→lt (suc m) (2 ^ 24) (and_r A B (and_l (A && B) C (and_l (A && B && C) D parts)))
-
-  e_le : down e ≤ 2 ^ 149
-  e_le =
-      let A = eqb (suc m % 2) 1 in
-      let B = ltb (suc m) (2 ^ 24) in
-      let C = leb (down e) (2 ^ 149) in
-      let D = ltb (suc m * up e) (2 ^ 128 * down e) in
-      leb→le (down e) (2 ^ 149) (and_r (A && B) C (and_l (A && B && C) D parts))
-
-  top_lt : suc m * up e < 2 ^ 128 * down e
-  top_lt =
-      let A = eqb (suc m % 2) 1 in
-      let B = ltb (suc m) (2 ^ 24) in
-      let C = leb (down e) (2 ^ 149) in
-      let D = ltb (suc m * up e) (2 ^ 128 * down e) in
-      ltb→lt (suc m * up e) (2 ^ 128 * down e) (and_r (A && B && C) D parts)
 
 digits_of : (y : Float) → T (fits binary32 y) → T (unsigned y) → Digits (in_units y)
 digits_of nan h u = absurd u
@@ -80,7 +43,7 @@ digits_of (inf s) h u = absurd u
 digits_of (fin s zero e) h u =
     record { z = 0; j = 0; is = whole 0 e 0 (ap (λ (x : ℕ). x * 2 ^ 149) (zero-mul (up e)) ∙ sym (zero-mul (down e))); small = pow_pos 24 }
 digits_of (fin s (suc m) e) h u =
-    let p = place (suc m) e (e_le s m e h) in record { z = suc m; j = p.0; is = whole (suc m) e (suc m * 2 ^ p.0) p.1; small = m_lt s m e h }
+    let p = place (suc m) e (not_too_small s m e h) in record { z = suc m; j = p.0; is = whole (suc m) e (suc m * 2 ^ p.0) p.1; small = few_digits s m e h }
 
 -- ---- the number under the root, as m * 2 ^ (2 * h + 2) with m from 2 ^ 46 up to 2 ^ 48, and the whole number v that is nearest to the root of m
 pub record Parts (n : ℕ) : Type 0 where
@@ -249,13 +212,13 @@ of_parts x r n e f p h =
 finite_root : (m : ℕ) (e : ℤ) → T (fits binary32 (fin false (suc m) e)) → NearestToRoot (fin false (suc m) e) (root_of binary32 (fin false (suc m) e))
 finite_root m e h =
     let x = fin false (suc m) e in
-    let d = place (suc m) e (e_le false m e h) in
+    let d = place (suc m) e (not_too_small false m e h) in
     let n = suc m * 2 ^ d.0 in
     let cap : n < 2 ^ 277 =
     lt_of_mul-lt-mul_right (down e)
-    (lt_of_le_of_lt (le_of_eq (sym d.1)) (lt_of_lt_of_le (mul-lt-mul_of_pos_right (top_lt false m e h) (pow_pos 149))
+    (lt_of_le_of_lt (le_of_eq (sym d.1)) (lt_of_lt_of_le (mul-lt-mul_of_pos_right (not_too_large false m e h) (pow_pos 149))
     (le_of_eq (mul_right_comm (2 ^ 128) (down e) (2 ^ 149))))) in
-    let p = parts_of (suc m) d.0 (zero-lt-suc m) (m_lt false m e h) cap in
+    let p = parts_of (suc m) d.0 (zero-lt-suc m) (few_digits false m e h) cap in
     let r : root_of binary32 x ≡ nearest_root binary32 (n * 2 ^ 151) = root_of_value x n (refl, d.1) (mul-pos (zero-lt-suc m) (pow_pos d.0)) in
     subst (λ (y : Float). NearestToRoot x y) (sym r)
     (of_parts x (nearest_root binary32 (n * 2 ^ 151)) n (whole (suc m) e n d.1) (nearest_fits (n * 2 ^ 151)) p
@@ -269,7 +232,7 @@ exact_value (inf s) h p = absurd p
 exact_value (fin true m e) h p = absurd p
 exact_value (fin false zero e) h p = absurd (lt_irrefl 0 (ltb→lt 0 0 p))
 exact_value (fin false (suc m) e) h p =
-    let d = place (suc m) e (e_le false m e h) in
+    let d = place (suc m) e (not_too_small false m e h) in
     (refl, d.1 ∙ ap (λ (n : ℕ). n * down e) (sym (whole (suc m) e (suc m * 2 ^ d.0) d.1)))
 
 positive_unsigned : (r : Float) → T (positive r) → T (unsigned r)
@@ -303,9 +266,25 @@ defined (fin s zero e) f = refl
 defined (fin true (suc m) e) f = refl
 defined (fin false (suc m) e) f = let p = finite_root m e f in record { nearest = p; only = λ t q. only_one (fin false (suc m) e) t _ q p }
 
-pub is_root : (x r : Float) → T (fits binary32 x) → r ≡ root_of binary32 x → IsRoot x r
+is_root : (x r : Float) → T (fits binary32 x) → r ≡ root_of binary32 x → IsRoot x r
 is_root x r f h = record { is = h; law = subst (RootLaw x) (sym h) (defined x f) }
 
--- and of a value that is told by its pattern
-pub is_root_of : (x r : Float) (b : ℕ) → T (fits binary32 x) → b ≡ to_bits binary32 x → r ≡ root_of binary32 (of_bits binary32 b) → IsRoot x r
-is_root_of x r b f e h = is_root x r f (h ∙ ap (root_of binary32) (ap (of_bits binary32) e ∙ of_bits-to_bits binary32 x f))
+-- ---- the operation gives the definition's value
+operation_is : (x : Float) → T (fits binary32 x) → sqrt binary32 x ≡ root_of binary32 x
+unfolding sqrt root_of
+operation_is nan f = refl
+operation_is (inf true) f = refl
+operation_is (inf false) f = refl
+operation_is (fin s zero e) f =
+    same_value binary32 s (fin s 0 (pos 0)) (fin s zero e) 0 (sqrt-fits binary32 (fin s zero e)) f (refl, refl)
+    (refl, ap (λ (x : ℕ). x * 2 ^ 149) (zero-mul (up e)) ∙ sym (zero-mul (down e)))
+operation_is (fin true (suc m) e) f = refl
+operation_is (fin false (suc m) e) f =
+    let x = fin false (suc m) e in
+    let d = place (suc m) e (not_too_small false m e f) in
+    let n = suc m * 2 ^ d.0 in
+    let N = mul-pos (zero-lt-suc m) (pow_pos d.0) in
+    operation_of_value x n (refl, d.1) N ∙ sym (root_of_value x n (refl, d.1) N)
+
+pub operation_is_root : (x r : Float) → T (fits binary32 x) → r ≡ sqrt binary32 x → IsRoot x r
+operation_is_root x r f h = is_root x r f (h ∙ operation_is x f)

@@ -1,10 +1,9 @@
-use Prim.Native.Nat.{◌-◌}
-use lib.ListN.{length}
+use Rattle.std.proofs.Common.{◌-◌, length}
 use Rattle.compaction.proofs.Closing.{Closing}
 use Rattle.compaction.proofs.close_gaps.Given as goal
 
-abbrev pub invariant-loop-at : goal.invariant-loop-at
-invariant-loop-at l = Closing l.initial.s l.from l.initial.g l.s l.g l.at l.to l.fell
+abbrev pub invariant-loop-read : goal.invariant-loop-read
+invariant-loop-read l = Closing l.initial.s l.fn.sound.next l.fn.sound.guidance l.s l.g l.at l.to l.fell
 
-abbrev pub decreases-loop-at : goal.decreases-loop-at
-decreases-loop-at l = length l.initial.s - l.at
+abbrev pub decreases-loop-read : goal.decreases-loop-read
+decreases-loop-read l = length l.initial.s - l.at

@@ -1,18 +1,20 @@
-use mathlib.Core.Path.{sym, ap, ◌∙◌}
-use Rattle.editions.specs.declared.Edition.{Edition}
-use Rattle.editions.specs.Edition.{read_as}
+use Rattle.std.proofs.Common.{refl, sym, ◌∙◌}
+use Rattle.records.proofs.ConfigLaw.{exit_is}
 use Rattle.editions.proofs.Writing.{refusal_is, places_are}
 use Rattle.editions.proofs.convert.Goals as goal
 
-pub returns-in-Refused : goal.returns-in-Refused
-returns-in-Refused c =
-    let a = c.args in
-    let other-is = ap (λ (e : Edition). read_as e a.s.now a.at) c.other-from.ensures in
-    refusal_is a.wanted _ a.out.now a.place _ (sym other-is ∙ sym c.read_as-read.ensures ∙ c.in-Refused.is)
+pub returns-in_err-read : goal.returns-in_err-read
+returns-in_err-read c =
+    let a = refusal_is _ _ c.args.out.now c.args.place _ (sym (rw c.other.ensures at c.in_err-read.ensures)) in
+    (exit_is _ c.from_residual.ensures.1 refl ∙ a.0, a.1)
 
-pub returns-in-Read : goal.returns-in-Read
-returns-in-Read c =
-    let a = c.args in
-    let other-is = ap (λ (e : Edition). read_as e a.s.now a.at) c.other-from.ensures in
-    places_are a.wanted _ a.out.now a.place _ _ (sym other-is ∙ sym c.read_as-read.ensures ∙ c.in-Read.is) _ _ _
-    c.write_as-answer.ensures.0 c.write_as-answer.ensures.1 c.places_of.ensures
+pub returns-in_err-written : goal.returns-in_err-written
+returns-in_err-written c =
+    let w = c.in_err-written.ensures in
+    let a = places_are _ _ c.args.out.now c.args.place _ (sym (rw c.other.ensures at c.in_ok-read.ensures)) _ _ w.0 w.1 in
+    (exit_is _ c.from_residual-in_err-written.ensures.1 refl ∙ a.0, a.1)
+
+pub returns : goal.returns
+returns c =
+    let w = c.in_ok-written.ensures in
+    places_are _ _ c.args.out.now c.args.place _ (sym (rw c.other.ensures at c.in_ok-read.ensures)) _ _ w.0 w.1

@@ -1,46 +1,34 @@
-use mathlib.Core.Path.{refl, sym, ap, ◌∙◌}
-use native.Mathlib.Omega.{arith}
-use Rattle.editions.specs.declared.Edition.{Edition}
-use Rattle.editions.specs.Edition.{read_as}
-use Rattle.editions.proofs.Reading.{cut, incomplete, already, first_is, second_map}
+use Rattle.std.proofs.Common.{sym, ◌∙◌}
+use Rattle.records.proofs.ConfigLaw.{exit_is}
+use Rattle.editions.proofs.Reading.{cut, incomplete, other_edition, first_is, second_map}
 use Rattle.editions.proofs.read_as.Goals as goal
 
-pub returns-then-s-at : goal.returns-then-s-at
-returns-then-s-at c = cut _ _ _ (omega (arith, c.if-s-at.true))
-
-pub returns-then-s-at-lt4 : goal.returns-then-s-at-lt4
-returns-then-s-at-lt4 c = cut _ _ _ (omega (arith, c.if-s-at-lt4.true))
+pub returns-in_err-start : goal.returns-in_err-start
+returns-in_err-start c = exit_is _ c.from_residual.ensures.1 c.in_err-start.ensures.1 ∙ cut _ _ _ c.in_err-start.ensures.0
 
 pub returns-then-not-is_complete : goal.returns-then-not-is_complete
 returns-then-not-is_complete c =
-    incomplete _ _ _ (omega (arith, c.if-s-at-lt4.false, c.if-s-at.false)) _ c.read_number-map.ensures.0 _ _ refl refl _
-    c.is_complete.ensures c.if-not-is_complete.true
+    incomplete _ _ c.in_ok-start.ensures.0 _ c.in_ok-start.ensures.1 _ (c.from-map.ensures ∙ c.read_word.ensures) _ c.fields_of-fields.ensures _
+    (sym c.is_complete.ensures ∙ c.if-not-is_complete.true)
 
-pub returns-then-mark-wanted : goal.returns-then-mark-wanted
-returns-then-mark-wanted c =
-    already _ _ _ (omega (arith, c.if-s-at-lt4.false, c.if-s-at.false)) _ c.read_number-map.ensures.0 _ _ refl refl _
-    c.is_complete.ensures c.if-not-is_complete.false _ c.mark_of-wanted.ensures.0 c.if-mark-wanted.true
+pub returns-then-not-is_of : goal.returns-then-not-is_of
+returns-then-not-is_of c =
+    other_edition _ _ c.in_ok-start.ensures.0 _ c.in_ok-start.ensures.1 _ (c.from-map.ensures ∙ c.read_word.ensures) _ c.fields_of-fields.ensures
+    (sym c.is_complete.ensures ∙ c.if-not-is_complete.false) _ (sym c.is_of.ensures ∙ c.if-not-is_of.true)
 
-pub returns-then-mark-eq0 : goal.returns-then-mark-eq0
-returns-then-mark-eq0 c =
-    c.read_call.ensures
-    ∙ first_is _ _ (omega (arith, c.if-s-at-lt4.false, c.if-s-at.false)) _ c.read_number-map.ensures.0 _ _ refl refl _
-    (c.if-mark-wanted.false ∙ c.mark_of-wanted.ensures.0) c.if-mark-eq0.true
-    (sym c.is_complete.ensures ∙ c.if-not-is_complete.false)
+pub returns-in-First : goal.returns-in-First
+returns-in-First c =
+    let o = sym c.is_of.ensures ∙ c.if-not-is_of.false in
+    rw c.in-First.is
+    (c.read_call.ensures
+    ∙ first_is _ _ c.in_ok-start.ensures.0 _ c.in_ok-start.ensures.1 _ (c.from-map.ensures ∙ c.read_word.ensures) _ c.fields_of-fields.ensures
+    (sym c.is_complete.ensures ∙ c.if-not-is_complete.false) (rw c.in-First.is at o))
 
 pub read_second-requires : goal.read_second-requires
 read_second-requires c =
-    let a = c.args in (
-      omega (arith, c.if-s-at-lt4.false, c.if-s-at.false),
-      (second_map a.s.now a.at (omega (arith, c.if-s-at-lt4.false, c.if-s-at.false)) _ c.read_number-map.ensures.0 _ _
-          refl refl a.edition (c.if-mark-wanted.false ∙ c.mark_of-wanted.ensures.0) c.if-mark-eq0.false).0,
-      sym c.is_complete.ensures ∙ c.if-not-is_complete.false,
+    let o = sym c.is_of.ensures ∙ c.if-not-is_of.false in
+    let q = sym c.is_complete.ensures ∙ c.if-not-is_complete.false in (
+      c.in_ok-start.ensures.0,
+      second_map _ _ c.in_ok-start.ensures.0 _ c.in_ok-start.ensures.1 _ (c.from-map.ensures ∙ c.read_word.ensures) _ c.fields_of-fields.ensures q (rw c.in-Second.is at o),
+      q,
     )
-
-pub returns : goal.returns
-returns c =
-    let a = c.args in
-    c.read_second.ensures
-    ∙ ap (λ (e : Edition). read_as e a.s.now a.at)
-    (sym (second_map a.s.now a.at (omega (arith, c.if-s-at-lt4.false, c.if-s-at.false)) _ c.read_number-map.ensures.0 _ _
-    refl refl a.edition (c.if-mark-wanted.false ∙ c.mark_of-wanted.ensures.0) c.if-mark-eq0.false).1)

@@ -4,8 +4,6 @@ use Rattle.std.specs.Prelude.{cond, List, [], ◌∷◌, ◌++◌, ℕ, suc, ◌
 use Rattle.fields.specs.Bytes.{number_at, bytes_of}
 use Rattle.fields.specs.Fields.{Field, stands}
 use Rattle.records.specs.Call.{call_fields}
-use Rattle.editions.specs.declared.Edition.{Edition}
-use Rattle.editions.specs.declared.Edition.TheVariants.{First, Second}
 use Rattle.editions.specs.Edition.{is_down, flip, mark}
 
 -- the byte count of the field of bit n of a call record: two bytes, then numbers
@@ -27,8 +25,3 @@ turned (f ∷ fs) n m s =
 -- the bytes that begin with a record of the first edition, which becomes one of the second
 abbrev pub turned_record : List ℕ → List ℕ
 turned_record s = bytes_of 4 (mark + number_at 4 s) ++ turned call_fields 0 (number_at 4 s) (drop 4 s)
-
--- whether bit 22 stands in an edition's map
-abbrev pub mark_of : Edition → ℕ
-mark_of First = 0
-mark_of Second = 1

@@ -1,11 +1,6 @@
--- `read_values` meets its contract: fields 0 to i are read. Assumes nothing.
-use Prim.Native.Nat.{◌-◌}
-use lib.ListN.{length}
+-- `read_values` meets its contract: fields 0 to x-index are read. Assumes nothing.
 use Rattle.fields.proofs.FieldLaw.{Reading}
 use Rattle.fields.proofs.read_values.Given as goal
 
-abbrev pub invariant-loop-i : goal.invariant-loop-i
-invariant-loop-i l = Reading l.s l.initial.rest.at l.map l.initial.v l.v l.rest.at l.m l.i
-
-abbrev pub decreases-loop-i : goal.decreases-loop-i
-decreases-loop-i l = length l.v - l.i
+abbrev pub invariant-loop-x : goal.invariant-loop-x
+invariant-loop-x g l = Reading g.T.Number.of_bits l.s l.from l.map l.initial.v l.v l.at l.m l.x-index

@@ -1,10 +1,7 @@
--- `put_values` meets its contract: the first i values are written. Assumes nothing.
-use Prim.Native.Nat.{◌-◌}
-use Rattle.lines.proofs.TextLaw.{Listing}
+-- `put_values` meets its contract: the first values are written. Assumes nothing.
+use lib.ListN.{take}
+use Rattle.lines.specs.Line.{values, Puts}
 use Rattle.lines.proofs.put_values.Given as goal
 
-abbrev pub invariant-loop-i : goal.invariant-loop-i
-invariant-loop-i l = Listing l.v l.count l.initial.part l.part l.at l.i
-
-abbrev pub decreases-loop-i : goal.decreases-loop-i
-decreases-loop-i l = l.count - l.i
+abbrev pub invariant-loop-v : goal.invariant-loop-v
+invariant-loop-v l = Puts (values (take l.v-index l.printed)) l.initial.part l.part l.at

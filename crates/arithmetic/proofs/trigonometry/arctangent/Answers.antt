@@ -13,7 +13,7 @@ use lib.Ieee.Bits.{nan_bits_is, to_bits-lt}
 use Rattle.arithmetic.specs.Constants.{n0, n1}
 use Rattle.arithmetic.specs.Order.{size, negative}
 use Rattle.arithmetic.specs.Trigonometry.{series_end, series, part, arctangent_of_size, arctangent}
-use Rattle.arithmetic.proofs.Bounds.{never', ne_self, zero_is}
+use Rattle.arithmetic.proofs.Bounds.{never', zero_is}
 use Rattle.arithmetic.proofs.Signs.{size_bits, size_number, size_unsigned, is_number, size_held, unsigned_bits, signed_bits, signed_number}
 use Rattle.arithmetic.proofs.Arctangent.{zero_exponent, arctangent_number, arctangent_unsigned}
 use Rattle.arithmetic.proofs.trigonometry.arctangent.Goals as goal
@@ -57,17 +57,6 @@ by_sign (fin s zero e) h n =
     subst (λ (x : ℤ). signed s (fin false 0 x) ≡ arctangent (fin s 0 x)) (sym (zero_exponent e h)) (at_zero s)
 by_sign (fin s (suc m) e) h n = at_other s m e
 
--- ---- what is known at each place
-held : (c : Start) → T (fits binary32 c.args.v)
-held c = subst T (sym c.well_formed.0.1) tt
-
-number : (c : Start) → ne c.args.v c.args.v ≡ false → is_nan c.args.v ≡ false
-number c e = sym (ne_self c.args.v) ∙ e
-
-nan_kept : (v : Float) → is_nan v ≡ true → v ≡ arctangent v
-unfolding arctangent
-nan_kept v e = rw e
-
 -- the arctangent of a size is one that the format holds
 part_fits : (u : Float) → T (fits binary32 (part u))
 unfolding part series
@@ -80,56 +69,56 @@ size_fits u = cond-fits binary32 (lt n1 u) _ _ (sub-fits binary32 _ _) (part_fit
 not_carried : (a b : ℕ) → a < 0x80000000 → b < 0x100000000 → a % 0x80000000 + b / 0x80000000 * 0x80000000 ≡ (a + b / 0x80000000 * 0x80000000) % 0x100000000
 not_carried a b l k = omega arith
 
+-- ---- what is known at each place, of v and of a, the arctangent of its size: owning an `f32` tells that the format holds it
 module _ (c : After-arctangent_of_size-a) where
-  abbrev start : Start
-  start = c.before.before
-
   abbrev v : Float
-  v = start.args.v
+  v = c.args.v
+
+  abbrev a : Float
+  a = c.arctangent_of_size-a.result
+
+  v_held : T (fits binary32 v)
+  v_held = subst T (sym c.well_formed.0.1) tt
 
   v_number : is_nan v ≡ false
-  v_number = number start c.if-v.false
+  v_number = sym c.if-is_nan.ensures.value
 
-  a_is : c.arctangent_of_size-a.result ≡ arctangent_of_size (size v)
-  a_is = c.arctangent_of_size-a.ensures ∙ ap arctangent_of_size (size_bits v (held start) v_number)
+  a_is : a ≡ arctangent_of_size (size v)
+  a_is = c.arctangent_of_size-a.ensures ∙ ap arctangent_of_size (size_bits v v_held v_number)
 
-  a_fits : T (fits binary32 c.arctangent_of_size-a.result)
+  a_fits : T (fits binary32 a)
   a_fits = subst (λ (x : Float). T (fits binary32 x)) (sym a_is) (size_fits (size v))
 
-  a_number : is_nan c.arctangent_of_size-a.result ≡ false
+  a_number : is_nan a ≡ false
   a_number = ap is_nan a_is ∙ arctangent_number (size v) (size_number v v_number) (size_unsigned v)
 
-  a_low : to_bits binary32 c.arctangent_of_size-a.result < 0x80000000
-  a_low =
-      unsigned_bits c.arctangent_of_size-a.result a_fits a_number
-      (ap negative a_is ∙ arctangent_unsigned (size v) (size_held v (held start)) (size_number v v_number) (size_unsigned v))
+  a_low : to_bits binary32 a < 0x80000000
+  a_low = unsigned_bits a a_fits a_number (ap negative a_is ∙ arctangent_unsigned (size v) (size_held v v_held) (size_number v v_number) (size_unsigned v))
 
-  signed_is : of_bits binary32 (to_bits binary32 c.arctangent_of_size-a.result % 0x80000000 + to_bits binary32 v / 0x80000000 * 0x80000000)
-      ≡ cond (negative v) (neg c.arctangent_of_size-a.result) c.arctangent_of_size-a.result
+  signed_is : of_bits binary32 (to_bits binary32 a % 0x80000000 + to_bits binary32 v / 0x80000000 * 0x80000000) ≡ cond (negative v) (neg a) a
   signed_is =
-      ap (of_bits binary32) (not_carried (to_bits binary32 c.arctangent_of_size-a.result) (to_bits binary32 v) a_low (to_bits-lt binary32 v (held start)))
-      ∙ signed_bits v c.arctangent_of_size-a.result (held start) a_fits v_number a_number
+      ap (of_bits binary32) (not_carried (to_bits binary32 a) (to_bits binary32 v) a_low (to_bits-lt binary32 v v_held))
+      ∙ signed_bits v a v_held a_fits v_number a_number
 
-pub returns-then-v : goal.returns-then-v
-returns-then-v c = nan_kept c.args.v (sym (ne_self c.args.v) ∙ c.if-v.true)
-
-pub float_to_bits-b : goal.float_to_bits-b
-float_to_bits-b c = is_number _ (number c.before c.if-v.false)
+pub returns-then-is_nan : goal.returns-then-is_nan
+unfolding arctangent
+returns-then-is_nan c = rw (sym c.if-is_nan.ensures.value)
 
 pub overflow_mul-sign : goal.overflow_mul-sign
-overflow_mul-sign c = omega (arith, to_bits-lt binary32 c.args.v (held c.before))
+overflow_mul-sign c = omega (arith, to_bits-lt binary32 c.args.v (subst T (sym c.well_formed.0.1) tt))
+
+pub overflow_add-result : goal.overflow_add-result
+overflow_add-result c = omega (arith, to_bits-lt binary32 (v c) (v_held c))
 
 pub float_from_bits-b : goal.float_from_bits-b
 float_from_bits-b c =
     let v = c.args.v in
-    let n = number c.before c.if-v.false in
-    subst (λ (b : Bool). T (not b)) (sym (nan_bits_is binary32 _ ∙ ap is_nan (size_bits v (held c.before) n) ∙ size_number v n)) tt
+    let n = sym c.if-is_nan.ensures.value in
+    let h : T (fits binary32 v) = subst T (sym c.well_formed.0.1) tt in
+    subst (λ (b : Bool). T (not b)) (sym (nan_bits_is binary32 _ ∙ ap is_nan (size_bits v h n) ∙ size_number v n)) tt
 
 pub float_to_bits-result : goal.float_to_bits-result
 float_to_bits-result c = is_number _ (a_number c)
-
-pub overflow_add-result : goal.overflow_add-result
-overflow_add-result c = omega (arith, to_bits-lt binary32 (v c) (held (start c)))
 
 pub float_from_bits-result : goal.float_from_bits-result
 float_from_bits-result c =
@@ -139,4 +128,4 @@ pub returns : goal.returns
 returns c =
     signed_is c
     ∙ ap (λ (x : Float). cond (negative (v c)) (neg x) x) (a_is c)
-    ∙ by_sign (v c) (held (start c)) (v_number c)
+    ∙ by_sign (v c) (v_held c) (v_number c)

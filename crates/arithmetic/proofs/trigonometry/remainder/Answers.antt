@@ -1,12 +1,14 @@
+use mathlib.Core.Path.{sym, ap}
 use mathlib.Core.Bool.{false}
-use Prim.Native.Nat.{ℕ, ◌^◌, ◌≤◌}
+use Prim.Native.Nat.{ℕ, ◌%◌, ◌^◌, ◌≤◌}
+use native.Mathlib.Nat.{mul-one}
 use native.Mathlib.Omega.{arith}
 use lib.Dec.{T, le→leb}
 use lib.IntN.{pos}
 use lib.Ieee.{binary32, in_float, of_int}
 use lib.Ieee.Exact.{HasValue}
 use lib.Ieee.Back.{round_whole}
-use Rattle.arithmetic.proofs.Remainder.{left_first, left_next, left_none}
+use Rattle.arithmetic.proofs.Remainder.{below_tau_units, doubled_once_more, all_doubled}
 use Rattle.arithmetic.proofs.trigonometry.remainder.Goals as goal
 
 whole : (x : ℕ) → x ≤ 2 ^ 24 → HasValue (of_int binary32 (pos x)) false x 1
@@ -17,21 +19,20 @@ cast : (x : ℕ) → x ≤ 2 ^ 24 → T (in_float binary32 (pos x))
 unfolding in_float
 cast x h = le→leb x (2 ^ 24) h
 
-pub loop-n-init : goal.loop-n-init
-loop-n-init c = left_first c.args.b
+pub loop-init : goal.loop-init
+loop-init c = sym (ap (λ (k : ℕ). k % 13176795) (mul-one _))
 
 pub overflow_mul-x : goal.overflow_mul-x
-overflow_mul-x c = omega (arith, c.loop-n.invariant.0)
+overflow_mul-x c = omega (arith, below_tau_units c.args.b c.loop.x c.loop.counter c.loop.invariant)
 
-pub loop-n-preserved : goal.loop-n-preserved
-loop-n-preserved c = left_next _ c.loop-n.x c.loop-n.n (omega arith) c.loop-n.invariant
+pub loop-preserved : goal.loop-preserved
+loop-preserved c = doubled_once_more c.args.b c.loop.x c.loop.counter c.loop.invariant
 
 pub int_to_float-result : goal.int_to_float-result
-int_to_float-result c = let l = c.loop-n in cast l.x (omega (arith, l.invariant.0))
+int_to_float-result c = cast c.loop.x (omega (arith, below_tau_units c.args.b c.loop.x c.loop.counter c.loop.invariant))
 
 pub returns : goal.returns
 returns c =
-    let d = c.before.before in
-    let l = d.loop-n in
-    let a = d.before in
-    left_none a.args.b l.x l.n (omega arith) l.invariant a.requires.0 a.requires.1 _ (whole l.x (omega (arith, l.invariant.0)))
+    let l = c.loop in
+    let small : l.x ≤ 2 ^ 24 = omega (arith, below_tau_units c.args.b l.x l.counter l.invariant) in
+    all_doubled c.args.b l.x l.counter (omega arith) l.invariant c.requires.0 c.requires.1 _ (whole l.x small)

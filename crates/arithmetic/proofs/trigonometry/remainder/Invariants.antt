@@ -1,8 +1,5 @@
-use Rattle.arithmetic.proofs.Remainder.{Left}
+use Rattle.arithmetic.proofs.Remainder.{Doubled}
 use Rattle.arithmetic.proofs.trigonometry.remainder.Given as goal
 
-abbrev pub invariant-loop-n : goal.invariant-loop-n
-invariant-loop-n l = Left l.b l.x l.n
-
-abbrev pub decreases-loop-n : goal.decreases-loop-n
-decreases-loop-n l = l.n
+abbrev pub invariant-loop : goal.invariant-loop
+invariant-loop l = Doubled l.b l.x l.counter

@@ -1,4 +1,5 @@
 -- `numbers::floats` meets its contract. Assumes nothing.
+use native.Mathlib.Omega.{arith}
 use lib.Ieee.{binary32, of_bits}
 use Rattle.fields.specs.Numbers.{floats_of}
 use Rattle.fields.proofs.MapLaw.{done}
@@ -6,4 +7,4 @@ use Rattle.fields.proofs.numbers.floats.Goals as goal
 
 pub returns : goal.returns
 unfolding floats_of
-returns c = done (of_bits binary32) 0 c.loop-i.invariant c.loop-i-test.false
+returns c = done (of_bits binary32) 0 c.loop-i.invariant (omega arith)

@@ -1,17 +1,9 @@
-use Rattle.host.specs.Run.{run_config, performed}
-use Rattle.claims.specs.Calls.{perform}
+use Rattle.host.specs.Run.{run_config}
+use Rattle.host.proofs.Kept.{set_is}
 use Rattle.host.proofs.run.run_config.Goals as goal
 
-pub returns-in-Refused : goal.returns-in-Refused
+pub returns-in-Ok : goal.returns-in-Ok
 unfolding run_config
-returns-in-Refused c = rw (c.bare.ensures, ← c.read_config-read.ensures, c.in-Refused.is)
-
-pub returns-in-Read : goal.returns-in-Read
-unfolding run_config performed perform
-returns-in-Read c =
-    rw (
-      c.of_field.ensures,
-      c.set_config-done.ensures,
-      ← c.read_config-read.ensures,
-      c.in-Read.is,
-    )
+returns-in-Ok c =
+    rw (c.judged.ensures, c.set_config.ensures, ← c.read_config.ensures, c.in-Ok.is)
+    (set_is c.args.g c.in-Ok.read.config c.in-Ok.read.next)

@@ -1,4 +1,3 @@
--- `call::command_bits` meets its contract. Assumes nothing.
 use Rattle.records.proofs.CallLaw.{front_bits}
 use Rattle.records.proofs.call_writer.command_bits.Goals as goal
 

@@ -1,4 +1,3 @@
--- `call::command_map` meets its contract. Assumes nothing.
 use mathlib.Core.Path.{◌∙◌}
 use Rattle.records.proofs.CallLaw.{front_map}
 use Rattle.records.proofs.call_writer.command_map.Goals as goal

@@ -1,7 +1,4 @@
--- `config::config_map` meets its contract. Assumes nothing.
-use mathlib.Core.Path.{◌≡◌, ◌∙◌}
-use lib.ListN.{length}
-use borrow.Author.Rules.{rules}
+use Rattle.std.proofs.Common.{◌≡◌, length, ◌∙◌, rules}
 use Rattle.records.proofs.ConfigLaw.{fields_are}
 use Rattle.records.proofs.config.config_map.Goals as goal
 

@@ -1,53 +1,27 @@
--- `config::read_config` meets its contract: a lemma for each outcome. Assumes nothing.
-use mathlib.Core.Path.{◌≡◌, ap, ◌∙◌}
-use native.Mathlib.Omega.{arith}
-use lib.ListN.{length}
-use Rattle.laws.specs.Config.{default}
-use Rattle.records.proofs.ConfigLaw.{bits_long, counted, cut, unnamed, short, whole}
+-- A lemma for each outcome.
+use Rattle.std.proofs.Common.{◌∙◌}
+use Rattle.records.proofs.ConfigLaw.{exit_is, cut, unnamed, short, room, whole}
 use Rattle.records.proofs.config.read_config.Goals as goal
 
-pub returns-then-s-at : goal.returns-then-s-at
-returns-then-s-at c = cut _ _ (omega (arith, c.if-s-at.true))
-
-pub returns-then-s-at-lt5 : goal.returns-then-s-at-lt5
-returns-then-s-at-lt5 c = cut _ _ (omega (arith, c.if-s-at-lt5.true))
+pub returns-in_err-start : goal.returns-in_err-start
+returns-in_err-start c = exit_is _ c.from_residual.ensures.1 c.in_err-start.ensures.1 ∙ cut _ _ c.in_err-start.ensures.0
 
 pub returns-then-map-ge-FIRST_UNNAMED : goal.returns-then-map-ge-FIRST_UNNAMED
-returns-then-map-ge-FIRST_UNNAMED c = unnamed _ _ (omega (arith, c.if-s-at-lt5.false)) _ c.read_number-map.ensures.0 c.if-map-ge-FIRST_UNNAMED.true
+returns-then-map-ge-FIRST_UNNAMED c =
+    unnamed _ _ c.in_ok-start.ensures.0 _ c.in_ok-start.ensures.1 _ c.read_number-map.ensures.0 c.if-map-ge-FIRST_UNNAMED.true
 
-pub returns-then-s-at-2 : goal.returns-then-s-at-2
-returns-then-s-at-2 c =
-    short _ _ (omega (arith, c.if-s-at-lt5.false)) _
-    c.read_number-map.ensures.0 c.if-map-ge-FIRST_UNNAMED.false _
-    (counted _ _ c.if-map-ge-FIRST_UNNAMED.false c.count.ensures.0) (omega (arith, c.if-s-at-2.true))
+pub returns-in_err-bytes_from : goal.returns-in_err-bytes_from
+returns-in_err-bytes_from c =
+    exit_is _ c.from_residual-in_err-bytes_from.ensures.1 c.in_err-bytes_from.ensures.1
+    ∙ short _ _ c.in_ok-start.ensures.0 _ c.in_ok-start.ensures.1 _ c.read_number-map.ensures.0 c.if-map-ge-FIRST_UNNAMED.false _ c.count.ensures.0
+    c.in_err-bytes_from.ensures.0
 
-pub read_values-after-requires : goal.read_values-after-requires
-read_values-after-requires c =
-    let long : length c.default_bits-v.result ≡ 33 = ap length c.default_bits-v.ensures ∙ bits_long default in
-    rw long
-    (omega (
-      arith,
-      counted _ _ c.if-map-ge-FIRST_UNNAMED.false c.count.ensures.0,
-      c.if-s-at-2.false,
-      c.if-s-at.false,
-    ))
+pub read_values-requires : goal.read_values-requires
+read_values-requires c =
+    room _ _ c.in_ok-start.ensures.0 _ c.in_ok-start.ensures.1 _ c.read_number-map.ensures.0 c.if-map-ge-FIRST_UNNAMED.false _ c.count.ensures.0
+    c.in_ok-bytes_from.ensures.0 _ c.default_bits-v.ensures
 
 pub returns : goal.returns
 returns c =
-    whole _ _
-    (omega (
-      arith,
-      c.if-s-at-lt5.false,
-      c.if-s-at.false,
-    ))
-    _ c.read_number-map.ensures.0
-    c.if-map-ge-FIRST_UNNAMED.false _
-    (counted _ _ c.if-map-ge-FIRST_UNNAMED.false
-    c.count.ensures.0)
-    (omega (
-      arith,
-      c.if-s-at-2.false,
-      c.if-s-at.false,
-    ))
-    _ _ _ _ c.default_bits-v.ensures c.read_values-after.ensures.0
-    c.read_values-after.ensures.1 c.config_of_bits-config.ensures
+    whole _ _ c.in_ok-start.ensures.0 _ c.in_ok-start.ensures.1 _ c.read_number-map.ensures.0 c.if-map-ge-FIRST_UNNAMED.false _ c.count.ensures.0
+    c.in_ok-bytes_from.ensures.0 _ c.default_bits-v.ensures _ _ c.read_values.ensures.0 c.config_of_bits.ensures

@@ -1,55 +1,34 @@
--- `config::write_config` meets its contract: refused or accepted. Assumes nothing.
-use mathlib.Core.Path.{◌≡◌, ap, ◌∙◌}
-use native.Mathlib.Omega.{arith}
-use lib.ListN.{length}
+-- Refused or accepted.
+use Rattle.std.proofs.Common.{◌≡◌, length, sym, ap, ◌∙◌, arith}
+use Rattle.std.proofs.lemmas.Bool.{leb-true, leb-false}
 use Rattle.records.specs.Config.{config_record}
 use Rattle.fields.proofs.WriteLaw.{refused, accepted}
 use Rattle.records.proofs.ConfigLaw.{bits_long, counted, map_is, record_is, record_long}
 use Rattle.records.proofs.config.write_config.Goals as goal
 
-pub returns-then-out-at : goal.returns-then-out-at
-returns-then-out-at c =
+pub returns-then-not-has_bytes : goal.returns-then-not-has_bytes
+returns-then-not-has_bytes c =
     let b = c.bits_of-v.ensures in
     let m = map_is c.args.c _ _ b c.config_map-map.ensures.0 in
     refused _ _ (config_record c.args.c) _
-    (record_long c.args.c _ _ b m _
-    (counted _ _ c.config_map-map.ensures.1 c.count.ensures.0))
-    (omega (arith, c.if-out-at.true))
-
-pub returns-then-out-at-2 : goal.returns-then-out-at-2
-returns-then-out-at-2 c =
-    let b = c.bits_of-v.ensures in
-    let m = map_is c.args.c _ _ b c.config_map-map.ensures.0 in
-    refused _ _ (config_record c.args.c) _
-    (record_long c.args.c _ _ b m _
-    (counted _ _ c.config_map-map.ensures.1 c.count.ensures.0))
-    (omega (arith, c.if-out-at-2.true))
+    (record_long c.args.c _ _ b m _ (counted _ _ c.config_map-map.ensures.1 c.count.ensures.0))
+    (leb-false _ _ (sym c.has_bytes.ensures ∙ c.if-not-has_bytes.true))
 
 pub write_fields-requires : goal.write_fields-requires
 write_fields-requires c =
-    let long : length c.bits_of-v.result ≡ 33 =
-    ap length c.bits_of-v.ensures
-    ∙ bits_long c.args.c in
+    let long : length c.bits_of-v.result ≡ 33 = ap length c.bits_of-v.ensures ∙ bits_long c.args.c in
     rw long
     (omega (
       arith,
       counted _ _ c.config_map-map.ensures.1 c.count.ensures.0,
-      c.if-out-at-2.false,
+      leb-true _ _ (sym c.has_bytes.ensures ∙ c.if-not-has_bytes.false),
     ))
 
 pub returns : goal.returns
 returns c =
     let b = c.bits_of-v.ensures in
-    let m =
-    map_is c.args.c _ _ b
-    c.config_map-map.ensures.0 in
-    accepted _ _
-    (config_record c.args.c) _
-    (record_long
-    c.args.c _ _ b m _
-    (counted _ _
-    c.config_map-map.ensures.1
-    c.count.ensures.0))
-    (omega (arith, c.if-out-at-2.false, c.if-out-at.false)) _
-    (c.write_fields.ensures
-    ∙ rw (record_is c.args.c _ _ b m))
+    let m = map_is c.args.c _ _ b c.config_map-map.ensures.0 in
+    accepted _ _ (config_record c.args.c) _
+    (record_long c.args.c _ _ b m _ (counted _ _ c.config_map-map.ensures.1 c.count.ensures.0))
+    (leb-true _ _ (sym c.has_bytes.ensures ∙ c.if-not-has_bytes.false)) _
+    (c.write_fields.ensures ∙ rw (record_is c.args.c _ _ b m))

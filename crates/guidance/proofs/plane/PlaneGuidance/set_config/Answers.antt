@@ -1,12 +1,10 @@
-use Rattle.guidance.specs.Plane.{configured, with_config}
-use borrow.Author.Tests.{eq-eqb, ne_eqb}
+use Rattle.std.proofs.lemmas.Result.{err_from_is_err_and}
+use Rattle.guidance.specs.Plane.{configured}
+use Rattle.guidance.proofs.plane.Contracts.{refused_config}
 use Rattle.guidance.proofs.plane.PlaneGuidance.set_config.Goals as goal
 
-pub returns-then-field-eq0 : goal.returns-then-field-eq0
-unfolding configured with_config
-returns-then-field-eq0 c =
-    rw (← c.validate-field.ensures, eq-eqb _ _ c.if-field-eq0.true)
-
-pub returns-else-field-eq0 : goal.returns-else-field-eq0
+pub returns-in_err-validate : goal.returns-in_err-validate
 unfolding configured
-returns-else-field-eq0 c = rw (← c.validate-field.ensures, ne_eqb _ _ c.if-field-eq0.false)
+returns-in_err-validate c =
+    let p = err_from_is_err_and c.from_residual.result c.from_residual.ensures.1 in
+    rw (p.1, p.2) (refused_config _ _ _ c.in_err-validate.ensures)

@@ -1,0 +1,2 @@
+-- What the proof of `call_of` cites.
+pub mod ByKind

@@ -1,2 +1,0 @@
--- Lemmas of a command's proofs.
-mod Orders

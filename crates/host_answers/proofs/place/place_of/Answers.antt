@@ -1,7 +1,0 @@
-use Rattle.host_answers.proofs.place.place_of.Goals as goal
-
-pub returns-in-Next : goal.returns-in-Next
-returns-in-Next c = rw c.in-Next.is
-
-pub returns-in-Refused : goal.returns-in-Refused
-returns-in-Refused c = rw c.in-Refused.is
