@@ -20,7 +20,7 @@ use Rattle.agreement.specs.declared.Refused.{Refused}
 use Rattle.agreement.specs.declared.Side.{Side}
 use Rattle.agreement.specs.declared.Side.TheVariants as side
 use Rattle.agreement.specs.Code.Steps as step
-use Rattle.agreement.specs.Code.Steps.{told, start, decided_for}
+use Rattle.agreement.specs.Code.Steps.{calls_from, calls_of_sound, decided_for}
 
 -- ---- a recording that can be read
 
@@ -37,8 +37,8 @@ module _ {s : List ℕ} {d : Sound} (o : Opening s d) where
   unfolding fresh
   settings_are = rw (o.starts, reads)
 
-  calls_are : told s (start d) ≡ remaining (recording s)
-  unfolding told
+  calls_are : calls_of_sound s d ≡ remaining (recording s)
+  unfolding calls_from
   calls_are = rw (o.starts, reads)
 
 parted_is : (s t : List ℕ) {d e : Sound} → Opening s d → Opening t e → step.parted s d t e ≡ parted (recording s) (recording t)
@@ -54,7 +54,7 @@ module _ (s : List ℕ) (d : Sound) (t : List ℕ) (e : Sound) where
   parted_differs false h q = rw (← h)
 
   pub parted_same : (r : Bool) → r ≡ same_list (config_values d.guidance.config) (config_values e.guidance.config) → not r ≡ false
-      → (x : Agreement) → x ≡ part_calls (told s (start d)) (told t (start e)) → x ≡ step.parted s d t e
+      → (x : Agreement) → x ≡ part_calls (calls_of_sound s d) (calls_of_sound t e) → x ≡ step.parted s d t e
   unfolding step.parted
   parted_same true h q x p = rw (← h) p
   parted_same false h q x p = let z : ◌≡◌ {A = ℕ} 0 1 = cc in absurd (omega arith)

@@ -1,15 +1,16 @@
 // Box and display held together: two recordings, each without the calls that demand 3 allows to be struck, tell one story or
 // part at a call.
 //
-// Each recording is read to its end first, as for its compaction; where one is refused, that is the answer. Then a cursor in each
-// goes from one remaining call to the next, for as long as the two calls are the same.
+// Each recording is read to its end first, as for its compaction; where one is refused, that is the answer. Then each goes from one
+// remaining call to the next, for as long as the two calls are the same.
 #![tactic(auto)]
 
 ghost use Rattle.std.specs.Prelude.{◌≡◌};
+ghost use Rattle.std.specs.Iterator.{YieldsFirstBy, item_count};
 ghost use Rattle.compaction.specs.Code.Steps.{decided};
 ghost use Rattle.agreement.specs.Agreement as spec;
 ghost use Rattle.agreement.specs.Code.Steps as step;
-ghost use Rattle.agreement.specs.Code.Steps.{Next};
+ghost use Rattle.agreement.specs.Code.Steps.{calls_left};
 
 use compaction::{BadRecording, Sound, decide, judge};
 use fields::numbers::bits_of;
@@ -44,23 +45,26 @@ pub enum Agreement {
     },
 }
 
-// A place after a call: the guidance there, whether the last accepted guide or prime call was a fallback, and the call's number.
+// A remaining call, with its number in the recording.
 #[derive(Clone, Copy)]
-struct Place {
+struct NumberedCall {
+    number: u32,
+    call: Call,
+}
+
+// The calls of a recording from a place on, without those that are struck: the guidance there, and the number of the next call. No filter
+// over replay's `CallLines`: that gives lines, and its last may be a refusal, where here every record was read before. `fell` is no absence
+// of a value: it is whether the last accepted guide or prime call was a fallback, as `judge` asks.
+#[derive(Clone, Copy)]
+struct RemainingCalls<'a> {
+    recording: &'a [u8],
     guidance: PlaneGuidance,
     at: usize,
     fell: bool,
     number: u32,
 }
 
-// A remaining call, and the place after it.
-#[derive(Clone, Copy)]
-struct Told {
-    call: Call,
-    place: Place,
-}
-
-// ---- values, equal as bits
+// ---- values, equal as bits: `==` of f32s holds no NaN equal to itself, and both zeros equal
 
 fn same_config(c: PlaneGuidanceConfig, d: PlaneGuidanceConfig) -> bool
     ensures { result ≡ spec.same_list (spec.config_values c) (spec.config_values d) }
@@ -81,104 +85,94 @@ fn same_call(c: Call, d: Call) -> bool
 
 // ---- one recording's remaining calls
 
-// The next call that is not struck, after a place.
-fn next_call(s: &[u8], last: Place) -> Option<Told>
-    ensures { Next s.now last result }
-{
-    let mut place = last;
-    while place.number < MOST_CALLS {
-        if s.len() <= place.at {
-            return None;
-        }
-        match read_call(s, place.at) {
+impl Iterator for RemainingCalls<'_> {
+    type Item = NumberedCall;
+
+    ghost next_gives = { YieldsFirstBy step.numbered_as calls_left };
+
+    ghost remaining = { item_count calls_left };
+
+    fn next(&mut self) -> Option<NumberedCall> {
+        for number in self.number..=MOST_CALLS {
+            if self.recording.len() <= self.at {
+                return None;
+            }
             // Every record was read before.
-            Err(_) => return None,
-            Ok(read) => {
-                let done = calls::perform(place.guidance, read.call);
-                let j = judge(place.fell, done.reply);
-                place = Place {
-                    guidance: done.guidance,
-                    at: read.next,
-                    fell: j.fell,
-                    number: place.number + 1,
-                };
-                if !j.struck {
-                    return Some(Told {
-                        call: read.call,
-                        place,
-                    });
-                }
+            let Ok(read) = read_call(self.recording, self.at) else {
+                return None;
+            };
+            let done = calls::perform(self.guidance, read.call);
+            let judged = judge(self.fell, done.reply);
+            self.guidance = done.guidance;
+            self.at = read.next;
+            self.fell = judged.fell;
+            self.number = number + 1;
+            if !judged.struck {
+                return Some(NumberedCall {
+                    number,
+                    call: read.call,
+                });
             }
         }
+        None
     }
-    None
+}
+
+fn remaining_calls(s: &[u8], sound: Sound) -> RemainingCalls<'_>
+    ensures { calls_left result ≡ step.calls_of_sound s.now sound }
+{
+    RemainingCalls {
+        recording: s,
+        guidance: sound.guidance,
+        at: sound.next,
+        fell: false,
+        number: 1,
+    }
 }
 
 // ---- both
 
-// Goes on from two places for as long as the calls are the same.
-fn part_calls(s: &[u8], a: Place, t: &[u8], b: Place) -> Agreement
-    ensures { result ≡ spec.part_calls (step.told s.now a) (step.told t.now b) }
+// Goes on for as long as the calls are the same.
+fn part_calls(box_calls: RemainingCalls<'_>, mut display_calls: RemainingCalls<'_>) -> Agreement
+    ensures { result ≡ spec.part_calls (calls_left box_calls.entry) (calls_left display_calls.entry) }
 {
-    let mut x = next_call(s, a);
-    let mut y = next_call(t, b);
-    loop {
-        match (x, y) {
-            (None, None) => return Agreement::Agree,
-            (None, Some(q)) => {
-                return Agreement::Part {
-                    box_call: None,
-                    display_call: Some(q.place.number),
-                };
-            }
-            (Some(p), None) => {
-                return Agreement::Part {
-                    box_call: Some(p.place.number),
-                    display_call: None,
-                };
-            }
-            (Some(p), Some(q)) => {
-                if !same_call(p.call, q.call) {
-                    return Agreement::Part {
-                        box_call: Some(p.place.number),
-                        display_call: Some(q.place.number),
-                    };
-                }
-                x = next_call(s, p.place);
-                y = next_call(t, q.place);
-            }
+    for ours in box_calls {
+        let Some(theirs) = display_calls.next() else {
+            return Agreement::Part {
+                box_call: Some(ours.number),
+                display_call: None,
+            };
+        };
+        if !same_call(ours.call, theirs.call) {
+            return Agreement::Part {
+                box_call: Some(ours.number),
+                display_call: Some(theirs.number),
+            };
         }
     }
-}
-
-fn start(sound: Sound) -> Place
-    ensures { result ≡ step.start sound }
-{
-    Place {
-        guidance: sound.guidance,
-        at: sound.next,
-        fell: false,
-        number: 0,
+    match display_calls.next() {
+        None => Agreement::Agree,
+        Some(theirs) => Agreement::Part {
+            box_call: None,
+            display_call: Some(theirs.number),
+        },
     }
 }
 
-// Two recordings that can be read.
+// Two recordings that can be read. Bytes and what was read of them go in apart: a `Sound` borrows nothing, since compaction moves the bytes.
 fn part(s: &[u8], a: Sound, t: &[u8], b: Sound) -> Agreement
     ensures { result ≡ step.parted s.now a t.now b }
 {
     if !same_config(a.guidance.config, b.guidance.config) {
         return Agreement::PartAtConfig;
     }
-    part_calls(s, start(a), t, start(b))
+    part_calls(remaining_calls(s, a), remaining_calls(t, b))
 }
 
 fn decide_for(side: Side, s: &[u8]) -> Result<Sound, Refused>
     ensures { result ≡ step.decided_for side (decided s.now) }
 {
-    match decide(s) {
-        Err(why) => Err(Refused { side, why }),
-        Ok(sound) => Ok(sound),
-    }
+    decide(s).map_err(|why| Refused { side, why })
 }
 
 // Compares the box's recording with the display's; the box's refusal first.

@@ -9,8 +9,8 @@ use lib.IntN.{ℤ}
 use borrow.Author.Tests.{le-leb, lt-leb}
 use lib.Ieee.{Float, nan, inf, fin, binary32, fits, is_nan, neg, of_bits, to_bits}
 use lib.Ieee.Bits.{of_bits-to_bits, to_bits-lt}
-use Rattle.std.specs.Float.{is_sign_negative, float_is_finite}
-use Rattle.arithmetic.specs.Order.{finite, size, negative}
+use Rattle.std.specs.Float.{is_sign_negative}
+use Rattle.arithmetic.specs.Order.{size, negative}
 use Rattle.arithmetic.proofs.Bounds.{never, never'}
 
 any_sign : (s t : Bool) (m : ℕ) (e : ℤ) → T (fits binary32 (fin s m e)) → T (fits binary32 (fin t m e))
@@ -90,13 +90,6 @@ nan_size (fin s m e) h = never h
 pub nan_pattern : of_bits binary32 0x7fc00000 ≡ nan
 unfolding of_bits
 nan_pattern = refl
-
--- and its finite test is
-pub finite_is : (v : Float) → float_is_finite v ≡ finite v
-unfolding float_is_finite finite
-finite_is nan = refl
-finite_is (inf s) = refl
-finite_is (fin s m e) = refl
 
 pub size_number : (v : Float) → is_nan v ≡ false → is_nan (size v) ≡ false
 unfolding size is_nan

@@ -1,8 +1,10 @@
 -- Least, greatest, clamp, the size and the finite test of document 01, and a choice by a Bool. Definitions only.
-use Rattle.std.specs.Prelude.{Bool, true, false, cond, Float}
+use Rattle.std.specs.Prelude.{Bool, false, cond, Float}
 use Rattle.std.specs.Float.Ieee as Ieee
 use Rattle.std.specs.Float.{nan, inf, fin}
 use Rattle.std.specs.Float.Ieee.{is_nan}
+-- Finite: neither NaN nor an infinity.
+unfoldable pub use Rattle.std.specs.Float.{float_is_finite as finite}
 
 -- Least: the other if one is NaN; a if a < b; else b.
 unfoldable pub least : Float → Float → Float
@@ -15,12 +17,6 @@ greatest a b = cond (is_nan a) b (cond (is_nan b) a (cond (Ieee.lt b a) a b))
 -- Clamp: low if v < low, high if v > high, else v; NaN passes.
 unfoldable pub clamp : Float → Float → Float → Float
 clamp v low high = cond (Ieee.lt v low) low (cond (Ieee.lt high v) high v)
-
--- neither NaN nor an infinity
-unfoldable pub finite : Float → Bool
-finite nan = false
-finite (inf s) = false
-finite (fin s m e) = true
 
 -- The size: the sign bit is cleared.
 unfoldable pub size : Float → Float

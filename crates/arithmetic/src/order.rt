@@ -1,10 +1,11 @@
-// Least, greatest, clamp, the size and the finite test, and a choice by a Bool.
+// Least, greatest, clamp, the size, the sign, and a choice by a Bool.
 ghost use Rattle.std.specs.Prelude.{◌≡◌, false};
 ghost use Rattle.std.specs.Float.Ieee as Ieee;
 ghost use Rattle.arithmetic.specs.Order as spec;
 
 // A NaN on the left is not below b, so b is given without a test of its own. Not f32::min and f32::max, here and below: of two equal
-// numbers, as zeros of two signs, those may give either, and document 01 says which.
+// numbers, as zeros of two signs, those may give either, and document 01 says which. Two
+// functions, since a comparison that is handed over would be a closure's contract in place of a sign.
 #[tactic(auto, using(crate::proofs::Bounds::least_nan), unfolding(crate::specs::Order::least))]
 pub fn least(a: f32, b: f32) -> f32
     ensures { result ≡ spec.least a b }
@@ -36,20 +37,14 @@ pub fn clamp(v: f32, low: f32, high: f32) -> f32
     if v > high { high } else { v }
 }
 
-// Clamp where the bounds are not crossed: the lesser of two, then the greater of two. f32::clamp allows no NaN among them.
+// Clamp where the bounds are not crossed: the lesser of two, then the greater of two. Beside `clamp`, since it takes no branch. f32::clamp
+// allows no NaN among the bounds.
 pub fn clamp_ordered(v: f32, low: f32, high: f32) -> f32
     requires { Ieee.lt high low ≡ false }
     ensures { result ≡ spec.clamp v low high }
 {
     let below = if v > high { high } else { v };
     if below < low { low } else { below }
-}
-
-#[tactic(auto, using(crate::proofs::Signs::finite_is))]
-pub fn is_finite(x: f32) -> bool
-    ensures { result ≡ spec.finite x }
-{
-    x.is_finite()
 }
 
 // The absolute value, by its bits: the sign bit, 2^31, is cleared, of a zero too. f32::abs compares twice, which is twice as long.

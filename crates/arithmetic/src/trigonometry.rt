@@ -7,7 +7,7 @@ ghost use Rattle.arithmetic.specs.Constants.{tau};
 ghost use Rattle.arithmetic.specs.Order as order;
 ghost use Rattle.arithmetic.specs.Trigonometry as spec;
 
-use crate::order::{is_finite, is_negative, size};
+use crate::order::{is_negative, size};
 use crate::root::root;
 pub use std::f32::consts::{FRAC_PI_2, FRAC_PI_4, PI, TAU};
 
@@ -81,7 +81,7 @@ fn cosine_of_folded(t: f32) -> f32
 pub fn cosine(r: f32) -> f32
     ensures { result ≡ spec.cosine r }
 {
-    if is_finite(r) {
+    if r.is_finite() {
         cosine_of_folded(folded(turned(r)))
     } else {
         f32::NAN

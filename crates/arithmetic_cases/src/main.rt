@@ -2,7 +2,7 @@
 // tools/vectors/arithmetic.py makes the rows and says what is in one.
 #![tactic(auto)]
 
-use arithmetic::order::{clamp, greatest, is_finite, least, size};
+use arithmetic::order::{clamp, greatest, least, size};
 use arithmetic::root::root;
 use arithmetic::trigonometry::{arcsine, arctangent, arctangent2, cosine, sine};
 use arithmetic::vector::{Vec2, cross, dot, norm, normalise};
@@ -94,7 +94,7 @@ fn main(rt: HostRuntime) -> io::Result<()> {
     )?;
     total += try_function(&rt, "clamp", Clamp, |[a, b, c, ..]| number(clamp(a, b, c)))?;
     total += try_function(&rt, "size", Size, |[a, ..]| number(size(a)))?;
-    total += try_function(&rt, "finite", Finite, |[a, ..]| truth(is_finite(a)))?;
+    total += try_function(&rt, "finite", Finite, |[a, ..]| truth(a.is_finite()))?;
     total += try_function(&rt, "root", Root, |[a, ..]| number(root(a)))?;
     total += try_function(&rt, "norm", Norm, |[a, b, ..]| number(norm(vec2(a, b))))?;
     total += try_function(

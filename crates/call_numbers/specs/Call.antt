@@ -1,23 +1,19 @@
 -- A call from the numbers and flags that a host gives. Definitions only.
-use Rattle.std.specs.Prelude.{ℕ, cond, eqb, Float, Option, Some, None}
+use Rattle.std.specs.Prelude.{ℕ, cond, eqb, Option, Some, None}
 use Rattle.laws.specs.declared.types.FlightRegime.{FlightRegime}
 use Rattle.laws.specs.declared.types.FlightRegime.TheVariants.{Copter, Plane}
 use Rattle.records.specs.declared.call.Call.{Call}
 use Rattle.records.specs.declared.call.Call.TheVariants.{Prime, Attitude, Rate, Waypoint, AbsoluteAttitude, Land, AbsoluteRate}
-use Rattle.arithmetic.specs.declared.vector.Vec2.{Vec2}
-use Rattle.guidance.specs.declared.plane.WaypointCall.{WaypointCall}
+use Rattle.guidance.specs.Plane.{WaypointCall}
 use Rattle.call_numbers.specs.declared.CallNumbers.{CallNumbers}
 
 -- 0 copter, else plane
 unfoldable pub regime_of : ℕ → FlightRegime
 regime_of n = cond (eqb n 0) Copter Plane
 
--- a number that is none where its flag is 0
-unfoldable pub option_of : ℕ → Float → Option Float
-option_of flag x = cond (eqb flag 0) None (Some x)
-
-unfoldable pub leg_of : ℕ → Float → Float → Option Vec2
-leg_of flag north east = cond (eqb flag 0) None (Some (record { x = north; y = east }))
+-- a value that is none where its flag is 0
+unfoldable pub given : {A : Type 0} → ℕ → A → Option A
+given flag x = cond (eqb flag 0) None (Some x)
 
 unfoldable pub waypoint_call : CallNumbers → WaypointCall
 waypoint_call k = record {
@@ -25,7 +21,7 @@ waypoint_call k = record {
   regime = regime_of k.regime;
   command = record {
     position_m = record { x = k.waypoint_north_m; y = k.waypoint_east_m };
-    velocity_mps = leg_of k.has_leg k.leg_north_mps k.leg_east_mps;
+    velocity_mps = given k.has_leg (record { x = k.leg_north_mps; y = k.leg_east_mps });
     altitude_m = k.altitude_m;
     cruise_speed_mps = k.cruise_speed_mps;
   };
@@ -33,9 +29,9 @@ waypoint_call k = record {
     position_m = k.position_m;
     velocity_mps = k.velocity_mps;
     roll_rad = k.roll_rad;
-    airspeed_mps = option_of k.has_airspeed k.airspeed_mps;
+    airspeed_mps = given k.has_airspeed k.airspeed_mps;
   };
-  cap = option_of k.has_cap k.pitch_cap_rad;
+  cap = given k.has_cap k.pitch_cap_rad;
 }
 
 unfoldable pub waypoint_of : CallNumbers → Call

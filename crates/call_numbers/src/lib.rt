@@ -41,32 +41,23 @@ pub struct CallNumbers {
     pub pitch_cap_rad: f32,
 }
 
+// A number that is no regime's counts as plane. No Result: the callers refuse such a number, before or after.
 #[tactic(auto, unfolding(crate::specs::Call::regime_of))]
 pub fn regime_of(n: u32) -> FlightRegime
     ensures { result ≡ spec.regime_of n }
 {
-    if n == 0 {
-        FlightRegime::Copter
-    } else {
-        FlightRegime::Plane
-    }
+    FlightRegime::try_from(n).unwrap_or(FlightRegime::Plane)
 }
 
-#[tactic(auto, unfolding(crate::specs::Call::option_of))]
-pub fn option_of(flag: u32, x: f32) -> Option<f32>
-    ensures { result ≡ spec.option_of flag x }
+// A value that is none where its flag is 0.
+#[tactic(auto, unfolding(crate::specs::Call::given))]
+pub fn given<T: Drop>(flag: u32, value: T) -> Option<T>
+    ensures { result ≡ spec.given flag value }
 {
-    (flag != 0).then_some(x)
+    (flag != 0).then_some(value)
 }
 
-#[tactic(auto, unfolding(crate::specs::Call::leg_of))]
-fn leg_of(flag: u32, north: f32, east: f32) -> Option<Vec2>
-    ensures { result ≡ spec.leg_of flag north east }
-{
-    (flag != 0).then_some(Vec2 { x: north, y: east })
-}
-
-// A waypoint call, whatever the kind says.
+// A waypoint call, whatever the kind says. No From: the numbers are a call's of any kind.
 #[tactic(auto, unfolding(crate::specs::Call::waypoint_call))]
 pub fn waypoint_call_of(k: CallNumbers) -> WaypointCall
     ensures { result ≡ spec.waypoint_call k }
@@ -79,7 +70,13 @@ pub fn waypoint_call_of(k: CallNumbers) -> WaypointCall
                 x: k.waypoint_north_m,
                 y: k.waypoint_east_m,
             },
-            velocity_mps: leg_of(k.has_leg, k.leg_north_mps, k.leg_east_mps),
+            velocity_mps: given(
+                k.has_leg,
+                Vec2 {
+                    x: k.leg_north_mps,
+                    y: k.leg_east_mps,
+                },
+            ),
             altitude_m: k.altitude_m,
             cruise_speed_mps: k.cruise_speed_mps,
         },
@@ -87,9 +84,9 @@ pub fn waypoint_call_of(k: CallNumbers) -> WaypointCall
             position_m: k.position_m,
             velocity_mps: k.velocity_mps,
             roll_rad: k.roll_rad,
-            airspeed_mps: option_of(k.has_airspeed, k.airspeed_mps),
+            airspeed_mps: given(k.has_airspeed, k.airspeed_mps),
         },
-        cap: option_of(k.has_cap, k.pitch_cap_rad),
+        cap: given(k.has_cap, k.pitch_cap_rad),
     }
 }
 
@@ -113,16 +110,16 @@ fn waypoint_of(k: CallNumbers) -> Call
     }
 }
 
-// The call of a kind from 0 to 6; a kind that none is counts as the last.
+// The call of a kind from 0 to 6; a kind that none is counts as the last. No Result: its caller has refused such a kind.
 #[tactic(auto, using(crate::proofs::ByKind::by_kind))]
 pub fn call_of(k: CallNumbers) -> Call
     ensures { result ≡ spec.from_numbers k }
 {
     let regime = regime_of(k.regime);
     let dt = k.dt;
-    match Kind::from_number(k.kind) {
-        Some(Kind::Prime) => Call::Prime,
-        Some(Kind::Attitude) => Call::Attitude {
+    match Kind::try_from(k.kind) {
+        Ok(Kind::Prime) => Call::Prime,
+        Ok(Kind::Attitude) => Call::Attitude {
             regime,
             dt,
             command: AttitudeCommand {
@@ -131,7 +128,7 @@ pub fn call_of(k: CallNumbers) -> Call
                 pitch: k.second,
             },
         },
-        Some(Kind::Rate) => Call::Rate {
+        Ok(Kind::Rate) => Call::Rate {
             regime,
             dt,
             command: RateCommand {
@@ -141,8 +138,8 @@ pub fn call_of(k: CallNumbers) -> Call
                 yaw_rate: k.third,
             },
         },
-        Some(Kind::Waypoint) => waypoint_of(k),
-        Some(Kind::AbsoluteAttitude) => Call::AbsoluteAttitude {
+        Ok(Kind::Waypoint) => waypoint_of(k),
+        Ok(Kind::AbsoluteAttitude) => Call::AbsoluteAttitude {
             regime,
             dt,
             command: AbsoluteAttitudeCommand {
@@ -151,8 +148,8 @@ pub fn call_of(k: CallNumbers) -> Call
                 thrust: k.third,
             },
         },
-        Some(Kind::Land) => Call::Land { regime, dt },
-        Some(Kind::AbsoluteRate) | None => Call::AbsoluteRate {
+        Ok(Kind::Land) => Call::Land { regime, dt },
+        Ok(Kind::AbsoluteRate) | Err(_) => Call::AbsoluteRate {
             regime,
             dt,
             command: AbsoluteRateCommand {

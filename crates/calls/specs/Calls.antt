@@ -1,14 +1,15 @@
 -- A record's call as a call on a guidance, and what carrying it out gives. Definitions only.
-use Rattle.std.specs.Prelude.{Option, None, Some, Float}
+use Rattle.std.specs.Prelude.{Option, None, Some, Float, Result}
 use Rattle.arithmetic.specs.Constants.{n0}
+use Rattle.refusals.specs.declared.Refusal.{Refusal}
+use Rattle.guidance.specs.declared.plane.Answer.{Answer}
 use Rattle.laws.specs.declared.types.VehicleState.{VehicleState}
+use Rattle.laws.specs.declared.types.ControlInput.{ControlInput}
 use Rattle.laws.specs.declared.types.ControlInput.TheVariants as Input
+use Rattle.guidance.specs.declared.plane.GuideCall.{GuideCall}
 use Rattle.claims.specs.Calls.{Call, guide, prime, Reply, answered, done, Outcome}
 use Rattle.records.specs.declared.call.Call.{Call as Read}
 use Rattle.records.specs.declared.call.Call.TheVariants as read
-use Rattle.calls.specs.declared.GuideCall.{GuideCall}
-use Rattle.calls.specs.declared.Reply.{Reply as Given}
-use Rattle.calls.specs.declared.Reply.TheVariants as given
 use Rattle.calls.specs.declared.Performed.{Performed}
 
 -- sensors and cap of a command that reads none
@@ -35,16 +36,16 @@ call_of (read.AbsoluteRate r dt c) = guide dt r (Input.AbsoluteRate c) unsensed 
 
 -- ---- the code's own values
 
-abbrev pub guide_of : GuideCall → Call
-guide_of k = guide k.dt k.regime k.input k.state k.cap
+abbrev pub guide_of : GuideCall ControlInput → Call
+guide_of k = guide k.dt k.regime k.command k.state k.cap
 
-abbrev pub as_call : Option GuideCall → Call
+abbrev pub as_call : Option (GuideCall ControlInput) → Call
 as_call None = prime
 as_call (Some k) = guide_of k
 
-abbrev pub as_reply : Given → Reply
-as_reply (given.Answered a) = answered a
-as_reply given.Primed = done
+abbrev pub as_reply : Option (Result Answer Refusal) → Reply
+as_reply (Some a) = answered a
+as_reply None = done
 
 abbrev pub as_outcome : Performed → Outcome
 as_outcome o = record { reply = as_reply o.reply; next = o.guidance }

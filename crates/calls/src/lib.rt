@@ -5,29 +5,15 @@ ghost use Rattle.std.specs.Prelude.{◌≡◌};
 ghost use Rattle.claims.specs.Calls as spec;
 ghost use Rattle.calls.specs.Calls as is;
 
-use guidance::plane::{Answer, PlaneGuidance};
-use laws::types::{ControlInput, FlightRegime, Vec3, VehicleState};
+use guidance::plane::{Answer, GuideCall, PlaneGuidance};
+use laws::types::{ControlInput, FlightRegime, VehicleState};
 use records::call::Call;
 use refusals::Refusal;
 
-// What `guide_capped` takes besides the guidance.
-#[derive(Clone, Copy)]
-pub struct GuideCall {
-    pub dt: f32,
-    pub regime: FlightRegime,
-    pub input: ControlInput,
-    pub state: VehicleState,
-    pub cap: Option<f32>,
-}
+// What a guide call answers; a prime call answers nothing.
+pub type Reply = Option<Result<Answer, Refusal>>;
 
-// What a guide call answers, or that the call was a prime: an `Option` would say of a prime that nothing was answered, not what it was.
-#[derive(Clone, Copy)]
-pub enum Reply {
-    Answered(Result<Answer, Refusal>),
-    Primed,
-}
-
-// The guidance after a call, and what the caller gets.
+// The guidance after a call, and what the caller gets; no Result, as `Guided`.
 #[derive(Clone, Copy)]
 pub struct Performed {
     pub guidance: PlaneGuidance,
@@ -35,33 +21,20 @@ pub struct Performed {
 }
 
 // A command other than a waypoint, which reads neither sensors nor cap.
-fn unsensed(dt: f32, regime: FlightRegime, input: ControlInput) -> GuideCall
-    ensures { is.guide_of result ≡ spec.guide dt regime input is.unsensed is.no_cap }
+fn unsensed(dt: f32, regime: FlightRegime, command: ControlInput) -> GuideCall<ControlInput>
+    ensures { is.guide_of result ≡ spec.guide dt regime command is.unsensed is.no_cap }
 {
     GuideCall {
         dt,
         regime,
-        input,
-        state: VehicleState {
-            position_m: Vec3 {
-                x: 0.0,
-                y: 0.0,
-                z: 0.0,
-            },
-            velocity_mps: Vec3 {
-                x: 0.0,
-                y: 0.0,
-                z: 0.0,
-            },
-            roll_rad: 0.0,
-            airspeed_mps: None,
-        },
+        command,
+        state: VehicleState::default(),
         cap: None,
     }
 }
 
-// The guide call that a record's call is; a prime is none.
-fn guide_call(call: Call) -> Option<GuideCall>
+// The guide call that a record's call is; a prime is none. No From: neither type is of this crate.
+fn guide_call(call: Call) -> Option<GuideCall<ControlInput>>
     ensures { is.as_call result ≡ is.call_of call }
 {
     match call {
@@ -85,7 +58,7 @@ fn guide_call(call: Call) -> Option<GuideCall>
         } => Some(GuideCall {
             dt,
             regime,
-            input: ControlInput::Waypoint(command),
+            command: ControlInput::Waypoint(command),
             state,
             cap,
         }),
@@ -104,13 +77,13 @@ fn guide_call(call: Call) -> Option<GuideCall>
 }
 
 #[tactic(auto, unfolding(claims::specs::Calls::perform))]
-fn guided(g: PlaneGuidance, k: GuideCall) -> Performed
+fn guided(g: PlaneGuidance, k: GuideCall<ControlInput>) -> Performed
     ensures { is.as_outcome result ≡ spec.perform g (is.guide_of k) }
 {
-    let done = g.guide_capped(k.dt, k.regime, k.input, k.state, k.cap);
+    let done = g.guide_capped(k.dt, k.regime, k.command, k.state, k.cap);
     Performed {
         guidance: done.guidance,
-        reply: Reply::Answered(done.answer),
+        reply: Some(done.answer),
     }
 }
 
@@ -121,7 +94,7 @@ pub fn perform(g: PlaneGuidance, call: Call) -> Performed
     match guide_call(call) {
         None => Performed {
             guidance: g.prime(),
-            reply: Reply::Primed,
+            reply: None,
         },
         Some(k) => guided(g, k),
     }

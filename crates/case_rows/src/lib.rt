@@ -1,5 +1,7 @@
-// What the programs over rows of figures share: reading a file's rows, trying each, and how many were right.
+// What the programs over rows of figures share: reading a file's rows, trying each, how many were right, and the energy state in a row.
 #![tactic(auto)]
+
+pub mod energy;
 
 ghost use Rattle.std.specs.Prelude.{◌≡◌, ◌+◌, ◌%◌, ◌^◌, ◌<◌, ◌≤◌, ◌↔◌, ◌++◌, length, take, map, slice_range, IfOk, IfNone, IsTrue, Some, codes};
 ghost use Rattle.std.specs.Fmt.{decimal};
@@ -10,6 +12,7 @@ ghost use Rattle.fields.specs.Numbers.{floats_of, bits_of};
 
 pub use fields::bytes::{from_bits, to_bits};
 use fields::numbers::{bits_of, floats_of};
+use reading::read_full;
 use std::io::Read;
 use std::ops::AddAssign;
 use std::rt::Files;
@@ -23,7 +26,8 @@ pub const MOST_WORDS: usize = 64;
 
 const ROOM: usize = MOST_WORDS * 4;
 
-// The words of a row, from the first on; what stands after its last says nothing.
+// The words of a row, from the first on; what stands after its last says nothing. One room for rows of every width: no heap. What a place or
+// a width may be stands at each function below: it is a fact of its arguments, and none of a row.
 #[derive(Drop)]
 pub struct Row {
     pub words: [u32; MOST_WORDS],
@@ -64,6 +68,7 @@ impl From<[u8; ROOM]> for Row {
     ghost from_gives = { λ bytes row. row.words ≡ map (from_le_bytes w32) (first_chunks 4 MOST_WORDS bytes) };
 
     fn from(bytes: [u8; ROOM]) -> Row {
+        // By index: of what a zip over iter_mut leaves, a proof knows the length alone.
         let (chunks, _) = bytes.as_chunks::<4>();
         let mut words = [0; MOST_WORDS];
         for (i, chunk) in chunks.iter().enumerate() {
@@ -99,34 +104,16 @@ impl fmt::Display for Count {
     }
 }
 
-// Reads until the room is full or the file ends, and says how many bytes it put at the room's start.
-// A read may give fewer bytes than there is room for, so that the turns of the loop are not counted.
-pub fn read_full<F: Read>(file: &mut F, room: &mut [u8]) -> io::Result<usize>
-    ensures bound { IfOk result (λ n. n ≤ length room.new) }
-    ensures bytes { IfOk result (λ n. Consumes (F.remaining file.old) (F.remaining file.new) (take n room.new)) }
-    ensures end { IfOk result (λ n. n < length room.new → IsAtEnd (F.remaining file.new)) }
-{
-    let mut done = 0;
-    while done < room.len() {
-        let n = file.read(&mut room[done..])?;
-        if n == 0 {
-            return Ok(done);
-        }
-        done += n;
-    }
-    Ok(done)
-}
-
-// Reads a row of some words and tries it; None where the file has no more. A row that is cut short is not right.
+// Reads a row of some words and tries it; None where the file has no more, or a row no word. A row that is cut short is not right.
 fn try_row<F: Read, T: FnMut(&Row) -> bool>(
     file: &mut F,
     words: usize,
     is_right: &mut T,
 ) -> io::Result<Option<bool>>
-    requires fits { (0 < words) × (words ≤ MOST_WORDS) }
+    requires fits { words ≤ MOST_WORDS }
     requires callable { T.IsAlwaysCallable is_right.old }
     ensures still_callable { T.IsAlwaysCallable is_right.new }
-    ensures end { IfOk result (λ right. IfNone right (IsAtEnd (F.remaining file.new))) }
+    ensures end { IfOk result (λ right. IfNone right (0 < words → IsAtEnd (F.remaining file.new))) }
 {
     let mut room = [0u8; ROOM];
     let size = words * 4;
@@ -142,11 +129,11 @@ pub fn try_rows<F: Read, T: FnMut(&Row) -> bool>(
     words: usize,
     mut is_right: T,
 ) -> io::Result<Count>
-    requires fits { (0 < words) × (words ≤ MOST_WORDS) }
+    requires fits { words ≤ MOST_WORDS }
     requires callable { T.IsAlwaysCallable is_right }
     ensures right { IfOk result (λ count. count.right ≤ count.rows) }
     ensures most { IfOk result (λ count. count.rows ≤ MOST_ROWS) }
-    ensures end { IfOk result (λ count. count.rows < MOST_ROWS → IsAtEnd (F.remaining file.new)) }
+    ensures end { IfOk result (λ count. count.rows < MOST_ROWS → 0 < words → IsAtEnd (F.remaining file.new)) }
 {
     let mut right = 0;
     for rows in 0..MOST_ROWS {
@@ -162,6 +149,17 @@ pub fn try_rows<F: Read, T: FnMut(&Row) -> bool>(
     })
 }
 
+// Opens the file of this name; None where it can't, which a line on standard error says. It promises nothing, as std's does.
+pub fn open<R: Files + Eprint>(rt: &R, name: &str) -> io::Result<Option<R::File>> {
+    match fs::open(rt, name) {
+        Ok(file) => Ok(Some(file)),
+        Err(e) => {
+            eprintln!(rt; "{name}: {e}")?;
+            Ok(None)
+        }
+    }
+}
+
 // Tries the rows of the file of this name, and prints the count under the name.
 pub fn try_group<R: Files + Print + Eprint, T: FnMut(&Row) -> bool>(
     rt: &R,
@@ -169,17 +167,13 @@ pub fn try_group<R: Files + Print + Eprint, T: FnMut(&Row) -> bool>(
     words: usize,
     is_right: T,
 ) -> io::Result<Count>
-    requires fits { (0 < words) × (words ≤ MOST_WORDS) }
+    requires fits { words ≤ MOST_WORDS }
     requires callable { T.IsAlwaysCallable is_right }
     ensures right { IfOk result (λ count. count.right ≤ count.rows) }
     ensures most { IfOk result (λ count. count.rows ≤ MOST_ROWS) }
 {
-    let mut file = match fs::open(rt, name) {
-        Ok(file) => file,
-        Err(e) => {
-            eprintln!(rt; "{name}: {e}")?;
-            return Ok(Count::default());
-        }
+    let Some(mut file) = open(rt, name)? else {
+        return Ok(Count::default());
     };
     let count = try_rows(&mut file, words, is_right)?;
     println!(rt; "{name}: {count}")?;

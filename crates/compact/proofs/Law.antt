@@ -1,5 +1,5 @@
 -- What is answered to the input that was read, and what is written of it. Assumes nothing.
-use Rattle.std.proofs.Common.{◌≡◌, ℕ, ◌≤◌, Option, None, Some, IfSome, Result, Ok, Err, List, [], ◌++◌, length, take, refl, sym, ap, ◌∙◌, subst, arith, length-append, length-take-le}
+use Rattle.std.proofs.Common.{◌≡◌, ℕ, ◌≤◌, Option, None, Some, IfSome, Result, Ok, Err, List, [], ◌++◌, length, take, refl, sym, ap, ◌∙◌, subst, arith, length-append}
 use lib.Seq.{take-append-le}
 use Rattle.std.specs.Io.KnownBytes.{Appends}
 use Rattle.std.proofs.KnownBytes.{Appends-nil}
@@ -9,9 +9,6 @@ use Rattle.compaction.specs.Compaction.{bytes_after}
 use Rattle.compaction.specs.declared.BadRecording.{BadRecording}
 use Rattle.compaction.proofs.LawsProof.{within}
 use Rattle.compact.specs.Output.{written, answer_to, output_of}
-
-pub part : (n : ℕ) (bytes : List ℕ) → n ≤ length bytes → n ≡ length (take n bytes)
-part n bytes h = sym (length-take-le n bytes h)
 
 -- the front of the input, as far as it decides
 abbrev pub IsFront : Option (List ℕ) → List ℕ → ℕ → Type 0

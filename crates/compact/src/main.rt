@@ -8,10 +8,12 @@ ghost use Rattle.replay.specs.Sizes.{decisive};
 ghost use Rattle.compact.specs.Output.{answer_to, output_of};
 
 use compaction::{BadRecording, compact};
-use input::{Failure, input_room, read_from, tell};
+use input::{Failure, input_room, tell};
+use reading::read_full;
 use std::io::{Read, Write};
 
-// Writes the short recording, or nothing where the recording is refused. As many bytes as decide the answer are read.
+// Writes the short recording, or nothing where the recording is refused. Two Results: a refusal is an answer, of which the contract speaks,
+// and a failure is none. As many bytes as decide the answer are read.
 fn shorten<R: Read, W: Write>(
     reader: &mut R,
     writer: &mut W,
@@ -23,7 +25,7 @@ fn shorten<R: Read, W: Write>(
     ensures unread { IsErrOf result Failure.Read → Keeps (W.contents writer.old) (W.contents writer.new) }
 {
     let mut bytes = input_room();
-    let size = read_from(reader, &mut bytes)?;
+    let size = read_full(reader, &mut bytes)?;
     let answer = compact(&mut bytes[..size]);
     if let Ok(n) = answer {
         writer.write_all(&bytes[..n]).map_err(|_| Failure::Write)?;

@@ -51,9 +51,6 @@ pub record Scanning (s : List ℕ) (from at n : ℕ) : Type 0 where
   pub high : n ≤ 4097
   pub is : scanned n (read_calls (4097 - n) s at) ≡ scanned 1 (read_calls most_calls s from)
 
-pub scan_starts : (s : List ℕ) (from : ℕ) → Scanning s from from 1
-scan_starts s from = record { high = omega arith; is = refl }
-
 scanned_none : (n : ℕ) → scanned n (no_calls ends) ≡ Ok tt
 unfolding scanned
 scanned_none n = refl

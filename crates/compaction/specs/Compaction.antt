@@ -13,6 +13,7 @@ use Rattle.calls.specs.Calls.{call_of}
 use Rattle.lines.specs.declared.Line.{Line}
 use Rattle.replay.specs.Recording.{Recorded, Ending, ends, stops, Recording, bad_config, recorded}
 use Rattle.replay.specs.Text.{refused_line, stopped_line}
+use Rattle.compaction.specs.declared.BadNumbers.{BadNumbers}
 use Rattle.compaction.specs.declared.BadRecording.{BadRecording}
 use Rattle.compaction.specs.declared.BadRecording.TheVariants as bad
 
@@ -72,6 +73,12 @@ abbrev pub line_of : BadRecording → Line
 line_of (bad.InvalidConfig invalid) = refused_line None invalid.field
 line_of (bad.Config why) = stopped_line None (number why)
 line_of (bad.Call n why) = stopped_line (Some n) (number why)
+
+-- a refusal as numbers: 1 has the failing field's, a call's record its call's
+abbrev pub numbers_of : BadRecording → BadNumbers
+numbers_of (bad.InvalidConfig invalid) = record { refusal = 1; field = invalid.field; call = 0 }
+numbers_of (bad.Config why) = record { refusal = number why; field = 0; call = 0 }
+numbers_of (bad.Call n why) = record { refusal = number why; field = 0; call = n }
 
 abbrev pub refusal_lines : Result ℕ BadRecording → List Line
 refusal_lines (Ok n) = []

@@ -46,7 +46,41 @@ impl BadRecording {
     }
 }
 
-// Whether a call is struck, and whether the last accepted guide or prime call, after it, was a fallback.
+// A refusal as numbers, for C: the refusal's; of refusal 1 the failing field's; the call's, 0 for the configuration.
+#[derive(Clone, Copy)]
+pub struct BadNumbers {
+    pub refusal: u32,
+    pub field: u32,
+    pub call: u32,
+}
+
+impl From<BadRecording> for BadNumbers {
+    ghost from_gives = { λ why numbers. numbers ≡ spec.numbers_of why };
+
+    fn from(why: BadRecording) -> BadNumbers {
+        match why {
+            BadRecording::InvalidConfig(invalid) => BadNumbers {
+                // `Refusal` has all numbers but a configuration's.
+                refusal: 1,
+                field: invalid.field,
+                call: 0,
+            },
+            BadRecording::Config(why) => BadNumbers {
+                refusal: why.number(),
+                field: 0,
+                call: 0,
+            },
+            BadRecording::Call { number, why } => BadNumbers {
+                refusal: why.number(),
+                field: 0,
+                call: number,
+            },
+        }
+    }
+}
+
+// Whether a call is struck, and whether, after it, the last accepted guide or prime call was a fallback. Each pair of the two occurs
+// (a refused call is struck and leaves the second as it was), so that an enum would have four variants for two facts.
 #[derive(Clone, Copy)]
 pub struct Judged {
     pub struck: bool,
@@ -62,7 +96,7 @@ pub struct Sound {
 
 // ---- the first pass
 
-// Goes over the calls from a place on.
+// Goes over the calls from a place on, which is carried: a record's length shows when it is read.
 fn scan(s: &[u8], from: usize) -> Result<(), BadRecording>
     ensures { result ≡ step.scanned 1 (read_calls most_calls s.now from) }
 {
@@ -112,12 +146,12 @@ pub fn judge(before: bool, reply: Reply) -> Judged
     ensures { result ≡ step.judged before (as_reply reply) }
 {
     match reply {
-        Reply::Answered(Err(_)) => Judged {
+        Some(Err(_)) => Judged {
             struck: true,
             fell: before,
         },
-        Reply::Answered(Ok(Answer::Waypoint(a))) => judge_law(before, a.laws.vertical),
-        Reply::Answered(Ok(Answer::Commanded(_))) | Reply::Primed => Judged {
+        Some(Ok(Answer::Waypoint(a))) => judge_law(before, a.laws.vertical),
+        Some(Ok(Answer::Commanded(_))) | None => Judged {
             struck: false,
             fell: false,
         },
@@ -136,7 +170,8 @@ fn keep(s: &mut [u8], to: usize, from: usize, next: usize) -> usize
 }
 
 // Closes the gaps that struck calls leave, from the place of the first call on, and answers the place after the last record.
-// The first pass read every record, so that none is refused before the end.
+// The first pass read every record, so that none is refused before the end. No `for` over an iterator of calls: bytes move under the
+// reader, so that nothing may hold the recording from one call to the next.
 fn close_gaps(s: &mut [u8], sound: Sound) -> usize
     requires { (sound.next ≤ length s.old) × ((read_calls most_calls s.old sound.next).ending ≡ ends) }
     ensures { Closed sound.next sound.guidance s.old s.new result }

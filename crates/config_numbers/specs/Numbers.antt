@@ -1,6 +1,7 @@
 -- A configuration as its 33 numbers, fields 1 to 33 in document 01's order. Definitions only.
-use Rattle.std.specs.Prelude.{List, [], ◌∷◌, get_or, Float}
+use Rattle.std.specs.Prelude.{List, [], ◌∷◌, ℕ, ◌+◌, get_or, Float}
 use Rattle.std.specs.Float.{nan}
+use Rattle.laws.specs.declared.config.TecsConfig.{TecsConfig}
 use Rattle.laws.specs.declared.config.PlaneGuidanceConfig.{PlaneGuidanceConfig}
 
 -- the 33 numbers, fields 1 to 33
@@ -41,6 +42,27 @@ numbers_of c =
     c.climb_thrust_per_rad ∷
     []
 
+-- the energy configuration, fields 15 to 30, of the 16 numbers from a place on
+abbrev pub tecs_from : ℕ → List Float → TecsConfig
+tecs_from at v = record {
+  time_constant_s = get_or v (at + 0) nan;
+  max_climb_mps = get_or v (at + 1) nan;
+  min_sink_mps = get_or v (at + 2) nan;
+  max_sink_mps = get_or v (at + 3) nan;
+  thrust_damping = get_or v (at + 4) nan;
+  integrator_gain = get_or v (at + 5) nan;
+  pitch_damping = get_or v (at + 6) nan;
+  pitch_integrator_gain = get_or v (at + 7) nan;
+  speed_weight = get_or v (at + 8) nan;
+  roll_compensation = get_or v (at + 9) nan;
+  min_airspeed_mps = get_or v (at + 10) nan;
+  max_airspeed_mps = get_or v (at + 11) nan;
+  underspeed_share = get_or v (at + 12) nan;
+  height_demand_time_constant_s = get_or v (at + 13) nan;
+  airspeed_rate_time_constant_s = get_or v (at + 14) nan;
+  kinetic_rate_high_pass_s = get_or v (at + 15) nan;
+}
+
 -- the configuration of 33 numbers
 unfoldable pub config_of : List Float → PlaneGuidanceConfig
 config_of v = record {
@@ -56,24 +78,7 @@ config_of v = record {
   altitude_p = get_or v 11 nan;
   altitude_i = get_or v 12 nan;
   altitude_max_integral = get_or v 13 nan;
-  tecs = record {
-    time_constant_s = get_or v 14 nan;
-    max_climb_mps = get_or v 15 nan;
-    min_sink_mps = get_or v 16 nan;
-    max_sink_mps = get_or v 17 nan;
-    thrust_damping = get_or v 18 nan;
-    integrator_gain = get_or v 19 nan;
-    pitch_damping = get_or v 20 nan;
-    pitch_integrator_gain = get_or v 21 nan;
-    speed_weight = get_or v 22 nan;
-    roll_compensation = get_or v 23 nan;
-    min_airspeed_mps = get_or v 24 nan;
-    max_airspeed_mps = get_or v 25 nan;
-    underspeed_share = get_or v 26 nan;
-    height_demand_time_constant_s = get_or v 27 nan;
-    airspeed_rate_time_constant_s = get_or v 28 nan;
-    kinetic_rate_high_pass_s = get_or v 29 nan;
-  };
+  tecs = tecs_from 14 v;
   min_thrust = get_or v 30 nan;
   max_thrust = get_or v 31 nan;
   climb_thrust_per_rad = get_or v 32 nan;

@@ -1,44 +1,47 @@
-// A configuration as the bits of its 33 numbers, fields 1 to 33, as its record has them.
+// A configuration as the bits of its 33 numbers, fields 1 to 33, as its record has them. No From, here and below: neither the
+// configuration nor an array is of this crate.
 #![tactic(auto)]
 
 ghost use Rattle.std.specs.Prelude.{◌≡◌};
 ghost use Rattle.laws.specs.Config.{default};
 ghost use Rattle.fields.specs.Numbers.{floats_of, bits_of};
-ghost use Rattle.config_numbers.specs.Numbers.{config_of, numbers_of};
+ghost use Rattle.config_numbers.specs.Numbers.{tecs_from, config_of, numbers_of};
 
 use fields::numbers::{bits_of as bits, floats_of as floats};
-use laws::config::{PlaneGuidanceConfig, TecsConfig, default};
+use laws::config::{PlaneGuidanceConfig, TecsConfig};
 use laws::types::Vec3;
 
-// The energy law's numbers of the 33, fields 15 to 30.
-fn tecs_of(v: [f32; 33]) -> TecsConfig
-    ensures { result ≡ (config_of v).tecs }
+// The energy configuration of its 16 numbers, fields 15 to 30.
+pub fn tecs_of(v: [f32; 16]) -> TecsConfig
+    ensures { result ≡ tecs_from 0 v }
 {
     TecsConfig {
-        time_constant_s: v[14],
-        max_climb_mps: v[15],
-        min_sink_mps: v[16],
-        max_sink_mps: v[17],
-        thrust_damping: v[18],
-        integrator_gain: v[19],
-        pitch_damping: v[20],
-        pitch_integrator_gain: v[21],
-        speed_weight: v[22],
-        roll_compensation: v[23],
-        min_airspeed_mps: v[24],
-        max_airspeed_mps: v[25],
-        underspeed_share: v[26],
-        height_demand_time_constant_s: v[27],
-        airspeed_rate_time_constant_s: v[28],
-        kinetic_rate_high_pass_s: v[29],
+        time_constant_s: v[0],
+        max_climb_mps: v[1],
+        min_sink_mps: v[2],
+        max_sink_mps: v[3],
+        thrust_damping: v[4],
+        integrator_gain: v[5],
+        pitch_damping: v[6],
+        pitch_integrator_gain: v[7],
+        speed_weight: v[8],
+        roll_compensation: v[9],
+        min_airspeed_mps: v[10],
+        max_airspeed_mps: v[11],
+        underspeed_share: v[12],
+        height_demand_time_constant_s: v[13],
+        airspeed_rate_time_constant_s: v[14],
+        kinetic_rate_high_pass_s: v[15],
     }
 }
 
 // The configuration of 33 numbers.
+#[tactic(auto, using(crate::proofs::Cut::cut), unfolding(crate::specs::Numbers::config_of))]
 fn config_of(v: [f32; 33]) -> PlaneGuidanceConfig
     ensures { result ≡ config_of v }
 {
-    let tecs = tecs_of(v);
+    let mut tecs = [0.0; 16];
+    tecs.copy_from_slice(&v[14..30]);
     PlaneGuidanceConfig {
         max_bank_rad: v[0],
         max_pitch_up_rad: v[1],
@@ -56,7 +59,7 @@ fn config_of(v: [f32; 33]) -> PlaneGuidanceConfig
         altitude_p: v[11],
         altitude_i: v[12],
         altitude_max_integral: v[13],
-        tecs,
+        tecs: tecs_of(tecs),
         min_thrust: v[30],
         max_thrust: v[31],
         climb_thrust_per_rad: v[32],
@@ -64,6 +67,7 @@ fn config_of(v: [f32; 33]) -> PlaneGuidanceConfig
 }
 
 // The 33 numbers of a configuration.
+#[tactic(auto, unfolding(crate::specs::Numbers::numbers_of))]
 fn numbers_of(c: PlaneGuidanceConfig) -> [f32; 33]
     ensures { result ≡ numbers_of c }
 {
@@ -115,7 +119,7 @@ pub fn bits_of(c: PlaneGuidanceConfig) -> [u32; 33]
 pub fn default_bits() -> [u32; 33]
     ensures { result ≡ bits_of (numbers_of default) }
 {
-    bits_of(default())
+    bits_of(PlaneGuidanceConfig::default())
 }
 
 // The configuration of the bits of 33 numbers.

@@ -10,10 +10,12 @@ ghost use Rattle.replay.specs.Sizes.{text_room};
 ghost use Rattle.replay.specs.Text.{recording_text};
 ghost use Rattle.desk.specs.Shown.{Shown};
 
-use input::{Failure, input_room, read_from};
+use input::{Failure, input_room};
+use reading::read_full;
 use replay::TEXT_ROOM;
 use std::io::{Read, Write};
 
+// Fixed memory, no heap. Beside input's `input_room`, since each promises its own size.
 fn text_room() -> [u8; TEXT_ROOM]
     ensures { text_room ≡ length result }
 {
@@ -35,7 +37,7 @@ fn print<R: Read, W: Write>(reader: &mut R, writer: &mut W) -> Result<(), Failur
     ensures unread { IsErrOf result Failure.Read → Keeps (W.contents writer.old) (W.contents writer.new) }
 {
     let mut bytes = input_room();
-    let size = read_from(reader, &mut bytes)?;
+    let size = read_full(reader, &mut bytes)?;
     let mut out = text_room();
     let n = show(&bytes[..size], &mut out);
     writer.write_all(&out[..n]).map_err(|_| Failure::Write)

@@ -8,7 +8,9 @@ use borrow.Author.Tests.{le-leb, lt-leb, leb-true, leb-false}
 use lib.Dec.{eqb, leb}
 use lib.ListN.{length, take, get_or, length-append}
 use lib.Seq.{take-append_seam}
-use Rattle.std.specs.Prelude.{Some, None, Result, Ok}
+use Rattle.std.specs.Prelude.{Result, Ok, Err}
+use Rattle.std.specs.Result.{is_ok}
+use Rattle.refusals.specs.declared.Refusal.TheVariants as why
 use Rattle.fields.specs.Bytes.{put_at}
 use Rattle.lines.proofs.PutLaw.{put_long}
 use Rattle.editions.specs.declared.Edition.{Edition}
@@ -96,21 +98,21 @@ module _ (s : List ℕ) where
   is_long h = rw (le-leb decisive (length s) h)
 
   module _ (h : length s < decisive) where
-    pub is_wanted : (wanted : Edition) → edition_of (get_or s 0 0) ≡ Some wanted → conversion s ≡ converted wanted s
+    pub is_wanted : (wanted : Edition) → edition_of (get_or s 0 0) ≡ Ok wanted → conversion s ≡ converted wanted s
     unfolding conversion
     is_wanted wanted q = rw (lt-leb decisive (length s) h) (go (eqb (get_or s 0 0) 1) (eqb (get_or s 0 0) 2) q)
       where
-        go : (a b : Bool) → cond a (Some First) (cond b (Some Second) None) ≡ Some wanted
+        go : (a b : Bool) → cond a (Ok First) (cond b (Ok Second) (Err why.UnknownRequest)) ≡ Ok wanted
             → cond a (converted First s) (cond b (converted Second s) (nothing NoEdition)) ≡ converted wanted s
         go true b q = let e : First ≡ wanted = cc in rw e refl
         go false true q = let e : Second ≡ wanted = cc in rw e refl
         go false false q = absurd cc
 
-    pub is_neither : edition_of (get_or s 0 0) ≡ None → conversion s ≡ nothing NoEdition
+    pub is_neither : is_ok (edition_of (get_or s 0 0)) ≡ false → conversion s ≡ nothing NoEdition
     unfolding conversion
     is_neither q = rw (lt-leb decisive (length s) h) (go (eqb (get_or s 0 0) 1) (eqb (get_or s 0 0) 2) q)
       where
-        go : (a b : Bool) → cond a (Some First) (cond b (Some Second) None) ≡ None
+        go : (a b : Bool) → is_ok (cond a (Ok First) (cond b (Ok Second) (Err why.UnknownRequest))) ≡ false
             → cond a (converted First s) (cond b (converted Second s) (nothing NoEdition)) ≡ nothing NoEdition
         go true b q = absurd cc
         go false true q = absurd cc

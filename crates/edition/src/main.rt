@@ -10,7 +10,8 @@ ghost use Rattle.replay.specs.Sizes.{decisive};
 ghost use Rattle.edition.specs.Conversion.{converted, conversion, AnswersWhole, output_of};
 
 use editions::{Edition, convert};
-use input::{Failure, INPUT_ROOM, input_room, read_from, tell};
+use input::{Failure, INPUT_ROOM, input_room, tell};
+use reading::read_full;
 use refusals::Refusal;
 use replay::turn::stopped_line;
 use std::io::{Read, Write};
@@ -24,6 +25,8 @@ enum Refused {
 }
 
 // Converts the records behind the first byte. No record is longer than the one it was read from, so that the buffer has room.
+// A `while`: a record stands where the one before it ends, and how many there are shows at the end, so that a `for` over their numbers
+// would need a last number that no input reaches and a way out before it.
 fn convert_all(s: &[u8], wanted: Edition, out: &mut [u8]) -> Result<usize, Refused>
     requires { (length s.now < decisive) × (length s.now ≤ length out.old) }
     ensures { (result ≡ (converted wanted s.now).answer) × (out.new ≡ put_at out.old 0 (converted wanted s.now).bytes) }
@@ -52,11 +55,11 @@ fn convert_file(s: &[u8], out: &mut [u8]) -> Result<usize, Refused>
         return Err(Refused::TooLong);
     }
     let first = s.first().ok_or(Refused::NoEdition)?;
-    let wanted = Edition::from_number(u32::from(*first)).ok_or(Refused::NoEdition)?;
+    let wanted = Edition::try_from(u32::from(*first)).map_err(|_| Refused::NoEdition)?;
     convert_all(s, wanted, out)
 }
 
-// Writes the records of all that the reader has left, or nothing where they are refused.
+// Writes the records of all that the reader has left, or nothing where they are refused. Two Results, as compact's.
 fn convert_input<R: Read, W: Write>(
     reader: &mut R,
     writer: &mut W,
@@ -68,7 +71,7 @@ fn convert_input<R: Read, W: Write>(
     ensures unread { IsErrOf result Failure.Read → Keeps (W.contents writer.old) (W.contents writer.new) }
 {
     let mut bytes = input_room();
-    let size = read_from(reader, &mut bytes)?;
+    let size = read_full(reader, &mut bytes)?;
     let mut out = input_room();
     let done = convert_file(&bytes[..size], &mut out);
     if let Ok(n) = done {

@@ -1,6 +1,6 @@
 -- Document 02, K14: "a second edition of the call record has bit 22 standing with no field; in it altitude (bit 11), position z
 -- (bit 15) and velocity z (bit 18) have their sign bit flipped; a missing one still means a call value of +0". Definitions only.
-use Rattle.std.specs.Prelude.{Bool, cond, not, ◌&&◌, ◌||◌, List, [], ◌∷◌, ◌++◌, ℕ, suc, ◌+◌, ◌-◌, ◌/◌, ◌%◌, ◌^◌, eqb, drop, get_or, Option, Some, None, Result, Ok, Err}
+use Rattle.std.specs.Prelude.{Bool, cond, not, ◌&&◌, ◌||◌, List, [], ◌∷◌, ◌++◌, ℕ, suc, ◌+◌, ◌-◌, ◌/◌, ◌%◌, ◌^◌, eqb, drop, get_or, Result, Ok, Err}
 use Rattle.std.specs.Result.{result_map_both}
 use Rattle.refusals.specs.declared.Refusal.{Refusal}
 use Rattle.refusals.specs.declared.Refusal.TheVariants as refusal
@@ -15,9 +15,9 @@ use Rattle.editions.specs.declared.Edition.{Edition}
 use Rattle.editions.specs.declared.Edition.TheVariants.{First, Second}
 use Rattle.editions.specs.declared.Converted.{Converted}
 
--- the edition of a number, if there is one
-abbrev pub edition_of : ℕ → Option Edition
-edition_of n = cond (eqb n 1) (Some First) (cond (eqb n 2) (Some Second) None)
+-- the edition of a number: another is no request
+abbrev pub edition_of : ℕ → Result Edition Refusal
+edition_of n = cond (eqb n 1) (Ok First) (cond (eqb n 2) (Ok Second) (Err refusal.UnknownRequest))
 
 -- ---- what is flipped
 

@@ -15,9 +15,9 @@ ghost use Rattle.editions.specs.Edition as spec;
 ghost use Rattle.editions.specs.Code.Steps as step;
 
 use fields::bytes::{read_word, write_number, write_word};
+use fields::part::bytes_from;
 use records::call::{Call, ReadCall, fields_size, is_complete, read_call, stands};
 use records::call_writer::write_call;
-use records::part::bytes_from;
 use refusals::Refusal;
 
 #[derive(Clone, Copy, PartialEq, Eq)]
@@ -26,17 +26,21 @@ pub enum Edition {
     Second,
 }
 
-impl Edition {
-    pub fn from_number(n: u32) -> Option<Edition>
-        ensures { result ≡ spec.edition_of n }
-    {
-        match n {
-            1 => Some(Edition::First),
-            2 => Some(Edition::Second),
-            _ => None,
+impl TryFrom<u32> for Edition {
+    type Error = Refusal;
+
+    ghost try_from_gives = { λ number r. r ≡ spec.edition_of number };
+
+    fn try_from(number: u32) -> Result<Edition, Refusal> {
+        match number {
+            1 => Ok(Edition::First),
+            2 => Ok(Edition::Second),
+            _ => Err(Refusal::UnknownRequest),
         }
     }
+}
 
+impl Edition {
     // Whether a map is one of this edition.
     fn is_of(self, map: u64) -> bool
         ensures { result ≡ spec.is_of self map }
@@ -69,7 +73,7 @@ const MARK: u32 = 22;
 
 const MARKED: u64 = 1 << 22;
 
-// The sign bit of an f32.
+// The sign bit of an f32. Apart from fields' own: a public constant for one bit would be no plainer.
 const SIGN: u32 = 1 << 31;
 
 // How many fields a call record has, and how many bytes at most.
@@ -118,6 +122,7 @@ fn turn(part: &mut [u8], map: u64)
     requires { 4 + size_of call_fields map ≤ length part.old }
     ensures { part.new ≡ take 4 part.old ++ step.turned call_fields 0 map (drop 4 part.old) }
 {
+    // A place goes on by the bytes of a field only where it stands, so that no iterator gives it.
     let mut at = 4;
     for n in 0..FIELDS {
         if stands(map, n) {
@@ -136,6 +141,7 @@ fn read_second(s: &[u8], at: usize, map: u64) -> Result<ReadCall, Refusal>
 {
     let size = 4 + fields_size(map);
     let record = bytes_from(s, at, size)?;
+    // Fixed memory, no heap.
     let mut plain = [0; LONGEST];
     plain[..size].copy_from_slice(&record[..size]);
     turn(&mut plain, map);

@@ -1,19 +1,20 @@
 -- Laws of f32s that are read: they are made of the values of fields. Assumes nothing.
-use mathlib.Core.Path.{◌≡◌, refl, sym, ap, ◌∙◌}
-use mathlib.Core.List.{List, [], ◌∷◌, ◌++◌, append_assoc, append-nil}
-use Prim.Native.Nat.{ℕ, zero, suc, ◌+◌, ◌-◌, ◌*◌, ◌/◌, ◌%◌, ◌<◌, ◌≤◌, ◌^◌}
+use mathlib.Core.Path.{◌≡◌, refl, ap, ◌∙◌}
+use mathlib.Core.List.{List, [], ◌∷◌, map}
+use Prim.Native.Nat.{ℕ, zero, suc, ◌-◌, ◌*◌, ◌/◌, ◌%◌, ◌<◌, ◌≤◌, ◌^◌}
 use native.Mathlib.Omega.{arith}
 use native.Mathlib.Nat.{pow-suc}
-use native.Mathlib.Numerals.{add-one}
 use borrow.Author.Tests.{eq-eqb}
+use lib.Dec.{lit≤}
 use lib.Pow.{pow_pos}
+use Rattle.std.specs.Simd.{first_chunks}
 use lib.Ieee.{Float, binary32, of_bits}
-use lib.ListN.{length, set, drop, take, replicate, length-set}
-use lib.Seq.{drop-drop, take_all, take-suc-set}
+use lib.ListN.{length, take, drop, replicate}
 use Rattle.fields.specs.Bytes.{number_at}
 use Rattle.fields.specs.Fields.{ones, number_fields, values_at, values_as}
 use Rattle.fields.specs.Numbers.{floats_of, numbers_at}
-use Rattle.fields.proofs.FieldLaw.{ones_more, ones_none, rest_is, values_made}
+use Rattle.fields.proofs.FieldLaw.{ones_more, ones_none, values_made}
+use Rattle.fields.proofs.Window.{drop_take, number_take}
 
 -- +0, what a missing f32 means
 abbrev pub none : ℕ → List Float
@@ -51,44 +52,23 @@ numbers_full [] s = refl
 numbers_full (x ∷ xs) s =
     rw (eq-eqb _ _ (full_odd (length xs)), full_half (length xs)) (ap (λ (l : List Float). of_bits binary32 (number_at 4 s) ∷ l) (numbers_full xs (drop 4 s)))
 
--- ---- `read_all`: f32s 0 to i are read
+-- ---- `read_all`: an f32 for each four bytes
 
--- number i of those that stand one behind the other
-abbrev pub number : List ℕ → ℕ → Float
-number s i = of_bits binary32 (number_at 4 (drop (4 * i) s))
+-- the f32 of four bytes
+abbrev pub f32_of : List ℕ → Float
+f32_of word = of_bits binary32 (number_at 4 word)
 
-pub none_left : (n i : ℕ) (s : List ℕ) → n ≤ i → numbers_at (n - i) s ≡ []
+pub numbers_chunked : (n : ℕ) (s : List ℕ) → map f32_of (first_chunks 4 n s) ≡ numbers_at n s
 unfolding numbers_at
-none_left n i s h = let z : n - i ≡ 0 = omega arith in rw z
+numbers_chunked zero s = refl
+numbers_chunked (suc n) s = rw (number_take 4 4 s (lit≤ tt), numbers_chunked n (drop 4 s))
 
-pub next : (s : List ℕ) (n i : ℕ) → i < n → numbers_at (n - i) (drop (4 * i) s) ≡ number s i ∷ numbers_at (n - (i + 1)) (drop (4 * (i + 1)) s)
+-- numbers that lie in the first k bytes
+pub numbers_take : (n k : ℕ) (s : List ℕ) → 4 * n ≤ k → numbers_at n (take k s) ≡ numbers_at n s
 unfolding numbers_at
-next s n i h =
-    let e : n - i ≡ suc (n - (i + 1)) = omega arith in
-    let d : 4 * i + 4 ≡ 4 * (i + 1) = omega arith in
-    rw (e, drop-drop 4 (4 * i) s, d)
+numbers_take zero k s h = refl
+numbers_take (suc n) k s h = rw (number_take 4 k s (omega arith), drop_take 4 k s, numbers_take n (k - 4) (drop 4 s) (omega arith))
 
-pub record Reading (s : List ℕ) (n : ℕ) (v : List Float) (at i : ℕ) : Type 0 where
-  pub below : i ≤ n
-  pub long : length v ≡ n
-  pub place : at ≡ 4 * i
-  pub is : take i v ++ numbers_at (n - i) (drop (4 * i) s) ≡ numbers_at n s
-
-module _ {s : List ℕ} {n : ℕ} {v : List Float} {at i : ℕ} (r : Reading s n v at i) where
-  pub read_turn : i < n → (x : ℕ) → x ≡ number_at 4 (take (length s - at) (drop at s)) → (y : Float) → y ≡ of_bits binary32 x → Reading s n (set v i y) (at + 4) (i + 1)
-  read_turn h x e y ey =
-      let front : take (i + 1) (set v i y) ≡ take i v ++ (y ∷ []) = rw (add-one i) (take-suc-set v i y (omega (arith, r.long))) in
-      let here : y ≡ number s i = ey ∙ rw (e, rest_is s at, r.place) in
-      record {
-        below = omega arith;
-        long = simp length-set r.long;
-        place = omega (arith, r.place);
-        is =
-            rw (front, append_assoc (take i v) (y ∷ []) (numbers_at (n - (i + 1)) (drop (4 * (i + 1)) s)), here)
-            (ap (λ (l : List Float). take i v ++ l) (sym (next s n i h)) ∙ r.is);
-      }
-
-  pub read_done : n ≤ i → v ≡ numbers_at n s
-  read_done h =
-      let all : take i v ≡ v = take_all i v (omega (arith, r.long)) in
-      sym (rw (all, none_left n i (drop (4 * i) s) h) (append-nil v)) ∙ r.is
+-- the words of the first n numbers' bytes
+pub read_words : (n : ℕ) (s : List ℕ) (words : List (List ℕ)) → words ≡ first_chunks 4 n (take (4 * n) s) → map f32_of words ≡ numbers_at n s
+read_words n s words e = rw e (numbers_chunked n (take (4 * n) s) ∙ numbers_take n (4 * n) s (omega arith))

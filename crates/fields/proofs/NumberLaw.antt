@@ -7,8 +7,10 @@ use native.Mathlib.Omega.{arith}
 use native.Mathlib.Numerals.{add-one}
 use native.Mathlib.Nat.{pow-suc, pow-zero, pow-le-pow_right, lt_of_lt_of_le}
 use lib.Dec.{T, ltb, lit<}
-use lib.ListN.{length, set, get_or, take, drop, length-set}
-use lib.Seq.{drop-drop, drop_at, get_or-drop, take_all, take-suc-set}
+use lib.ListN.{length, set, get_or, take, drop, length-set, length-append}
+use lib.Seq.{drop-drop, drop_at, get_or-drop, take_all, take-suc-set, length-take-le, take_at, get_or-take}
+use Rattle.std.specs.List.{push}
+use Rattle.std.proofs.lemmas.List.{take-take, get_or_push}
 use lib.Ieee.{Float, nan, inf, fin, binary32, is_nan, of_bits, to_bits, nan_bits}
 use lib.Ieee.Bits.{nan_bits_is, nan_bits_above}
 use Rattle.fields.specs.Bytes.{number_at, bytes_of}
@@ -53,16 +55,16 @@ pub record Reading (s : List ℕ) (n v i : ℕ) : Type 0 where
   pub is : v ≡ number_at (n - i) (drop i s)
   pub small : v < 256 ^ (n - i)
 
-pub read_starts : (s : List ℕ) (n : ℕ) → Reading s n 0 n
+read_starts : (s : List ℕ) (n : ℕ) → Reading s n 0 n
 read_starts s n =
     let z : n - n ≡ 0 = omega arith in
     record { below = omega arith; is = rw z (sym (number_none (drop n s))); small = rw z (lit< tt) }
 
 module _ {s : List ℕ} {n v i : ℕ} (r : Reading s n v i) where
-  pub read_fits : n ≤ 7 → 0 < i → v < 256 ^ 6
+  read_fits : n ≤ 7 → 0 < i → v < 256 ^ 6
   read_fits h k = lt_of_lt_of_le r.small (pow-le-pow_right {n = 256} (lit< tt) {i = n - i} {j = 6} (omega arith))
 
-  pub read_turn : 0 < i → (b : ℕ) → b ≡ get_or s (i - 1) 0 → b < 256 → Reading s n (256 * v + b) (i - 1)
+  read_turn : 0 < i → (b : ℕ) → b ≡ get_or s (i - 1) 0 → b < 256 → Reading s n (256 * v + b) (i - 1)
   read_turn h b e k =
       let back : i - 1 + 1 ≡ i = omega arith in
       let step = rw back at (number_from n s (i - 1) (omega (arith, r.below))) in
@@ -73,11 +75,40 @@ module _ {s : List ℕ} {n v i : ℕ} (r : Reading s n v i) where
         small = rw (q, pow-suc 256 (n - i)) (omega (arith, r.small));
       }
 
-  pub read_done : i ≤ 0 → (v ≡ number_at n s) × (v < 256 ^ n)
+  read_done : i ≤ 0 → (v ≡ number_at n s) × (v < 256 ^ n)
   read_done h =
       let z : i ≡ 0 = omega arith in
       let q : n - i ≡ n = omega arith in
       (rw (q, z) at r.is, rw q at r.small)
+
+-- front has the bytes that are left: front is left of them after b was read
+pub record Left (s : List ℕ) (n v : ℕ) (front : List ℕ) : Type 0 where
+  pub is : front ≡ take (length front) s
+  pub reading : Reading s n v (length front)
+
+pub left_starts : (s : List ℕ) (n : ℕ) → n ≤ length s → Left s n 0 (take n s)
+left_starts s n h = let long = length-take-le n s h in record { is = rw long; reading = rw long (read_starts s n) }
+
+module _ {s : List ℕ} {n v : ℕ} {front : List ℕ} (l : Left s n v front) (after : List ℕ) (b : ℕ) (e : front ≡ push after b) where
+  long : length front ≡ length after + 1
+  long = rw e (length-append after (b ∷ []))
+
+  pub left_fits : n ≤ 7 → v < 256 ^ 6
+  left_fits h = read_fits l.reading h (omega (arith, long))
+
+  whole : take (length after + 1) s ≡ push after b
+  whole = sym (rw long at l.is) ∙ e
+
+  pub left_turn : ((i : ℕ) → get_or s i 0 < 256) → Left s n (256 * v + b) after
+  left_turn small =
+      let i = length after in
+      let back : length front - 1 ≡ i = omega (arith, long) in
+      let kept : after ≡ take i s = sym (take_at after (b ∷ []) i refl) ∙ ap (take i) (sym whole) ∙ take-take i (i + 1) s (omega arith) in
+      let last : b ≡ get_or s i 0 = sym (get_or_push after b 0 i refl) ∙ ap (λ (l : List ℕ). get_or l i 0) (sym whole) ∙ get_or-take (i + 1) s i 0 (omega arith) in
+      record { is = kept; reading = rw back at (read_turn l.reading (omega (arith, long)) b (rw back last) (rw last (small i))) }
+
+pub left_done : {s : List ℕ} {n v : ℕ} {front : List ℕ} → Left s n v front → length front ≡ 0 → (v ≡ number_at n s) × (v < 256 ^ n)
+left_done l h = read_done l.reading (omega (arith, h))
 
 -- ---- `write_number`: bytes 0 to i of p are written, v is what is left of the number
 

@@ -19,7 +19,7 @@ drop_take (suc i) (suc n) [] = rw (take-nil (suc n - suc i))
 drop_take (suc i) (suc n) (x ∷ xs) = rw (suc-sub-suc n i) (drop_take i n xs)
 
 -- a number, and values, that lie in the first n bytes
-number_take : (k n : ℕ) (s : List ℕ) → k ≤ n → number_at k (take n s) ≡ number_at k s
+pub number_take : (k n : ℕ) (s : List ℕ) → k ≤ n → number_at k (take n s) ≡ number_at k s
 unfolding number_at
 number_take zero n s h = refl
 number_take (suc k) n s h = rw (get_or-take n s 0 0 (omega arith), drop_take 1 n s, number_take k (n - 1) (drop 1 s) (omega arith))

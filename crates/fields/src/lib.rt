@@ -4,6 +4,7 @@
 
 pub mod bytes;
 pub mod numbers;
+pub mod part;
 
 ghost use Rattle.std.specs.Prelude.{◌≡◌, ◌≤◌, ◌<◌, ◌^◌, length, drop, replicate, false};
 ghost use Rattle.fields.specs.Bytes.{put_at};
@@ -18,7 +19,9 @@ pub fn count(map: u64) -> usize
     u64::count_ones(map) as usize
 }
 
-// Reads each number whose bit stands, and keeps what v has for the others; the place after the last.
+// Reads each number whose bit stands, and keeps what v has for the others; the place after the last. Here and in `write_values` the
+// place is carried, since it moves only where a bit stands. Bytes, place and map go in apart: each group of a record has another place and
+// another map.
 pub fn read_values<T: Number>(s: &[u8], from: usize, map: u64, v: &mut [T]) -> usize
     requires { place_after from (length v.old) map ≤ length s.now }
     ensures { (v.new ≡ values_as T.of_bits v.old map (drop from s.now)) × (result ≡ place_after from (length v.old) map) }
@@ -39,7 +42,8 @@ pub fn read_values<T: Number>(s: &[u8], from: usize, map: u64, v: &mut [T]) -> u
     at
 }
 
-// The map of the numbers that are written: those that are kept, and those that missing would not give.
+// The map of the numbers that are written: those that are kept, and those that missing would not give. By index: three lists are
+// read at once, from the last on, and of a zip that is reversed a proof knows no item.
 pub fn map_of(keep: &[bool], v: &[u32], missing: &[u32]) -> u64
     requires { (length v.now ≡ length keep.now) × (length missing.now ≡ length keep.now) × (length keep.now ≤ 40) }
     ensures { (result ≡ map_of (number_fields missing.now) keep.now v.now) × (result < 2 ^ length keep.now) × (result < 2 ^ 40) }
@@ -51,21 +55,22 @@ pub fn map_of(keep: &[bool], v: &[u32], missing: &[u32]) -> u64
     m
 }
 
+// As a digit of a map.
 fn is_written(keep: bool, v: u32, missing: u32) -> u64
     ensures { (result ≡ bit_of (is_written keep v missing)) × (result < 2) }
 {
-    (keep || v != missing) as u64
+    u64::from(keep || v != missing)
 }
 
-// None is written whatever its value.
-static NONE: [bool; 40] = [false; 40];
+// No number is written whatever its value.
+static KEEP_NONE: [bool; 40] = [false; 40];
 
 // The map of the numbers that missing would not give, where none is written whatever its value.
 pub fn changed(v: &[u32], missing: &[u32]) -> u64
     requires { (length missing.now ≡ length v.now) × (length v.now ≤ 40) }
     ensures { (result ≡ map_of (number_fields missing.now) (replicate (length v.now) false) v.now) × (result < 2 ^ length v.now) × (result < 2 ^ 40) }
 {
-    map_of(&NONE[..v.len()], v, missing)
+    map_of(&KEEP_NONE[..v.len()], v, missing)
 }
 
 // Writes each number whose bit stands, from a place on; the place after the last.

@@ -8,14 +8,16 @@ ghost use Rattle.fields.specs.Numbers.{floats_of, bits_of, numbers_at};
 use crate::bytes::{from_bits, read_word, to_bits};
 use crate::read_values;
 
-// The f32s with these bits. Here and below by index: of what a zip over iter_mut leaves, a proof knows the length alone.
-pub fn floats(bits: &[u32], v: &mut [f32])
-    requires { length v.old ≡ length bits.now }
-    ensures { v.new ≡ floats_of bits.now }
+// The f32s with these bits. Here and below by index: of what a zip over iter_mut leaves, a proof knows the length alone, and an
+// array's `map` asks for a bound on N.
+pub fn floats_of<const N: usize>(b: [u32; N]) -> [f32; N]
+    ensures { result ≡ floats_of b.entry }
 {
+    let mut v = [0.0f32; N];
     for (i, x) in v.iter_mut().enumerate() {
-        *x = from_bits(bits[i]);
+        *x = from_bits(b[i]);
     }
+    v
 }
 
 // The bits of f32s. A loop of its own: shared with the one above it would be a closure's contract in place of a line.
@@ -26,15 +28,6 @@ pub fn bits(v: &[f32], out: &mut [u32])
     for (i, b) in out.iter_mut().enumerate() {
         *b = to_bits(v[i]);
     }
-}
-
-// The same of an array.
-pub fn floats_of<const N: usize>(b: [u32; N]) -> [f32; N]
-    ensures { result ≡ floats_of b.entry }
-{
-    let mut v = [0.0f32; N];
-    floats(&b, &mut v);
-    v
 }
 
 // The same of an array.
@@ -51,14 +44,14 @@ pub fn read_all(s: &[u8], v: &mut [f32])
     requires { 4 * length v.old ≤ length s.now }
     ensures { v.new ≡ numbers_at (length v.old) s.now }
 {
-    let mut at = 0;
-    for x in v.iter_mut() {
-        *x = from_bits(read_word(&s[at..]));
-        at += 4;
+    let (words, _) = s[..4 * v.len()].as_chunks::<4>();
+    for (i, x) in v.iter_mut().enumerate() {
+        *x = from_bits(read_word(&words[i]));
     }
 }
 
-// Reads a group of f32s of which as a rule each stands: all is the map of that.
+// Reads a group of f32s of which as a rule each stands: all is the map of that, handed in, since made of v's length it would ask that v
+// has fewer than 64.
 pub fn read_group(s: &[u8], from: usize, map: u64, all: u64, v: &mut [f32]) -> usize
     requires { (all ≡ 2 ^ length v.old - 1) × (place_after from (length v.old) map ≤ length s.now) }
     ensures { (v.new ≡ values_as (of_bits binary32) v.old map (drop from s.now)) × (result ≡ place_after from (length v.old) map) }

@@ -34,6 +34,7 @@ use Rattle.laws.specs.declared.types.Setpoint.{Setpoint}
 use Rattle.laws.specs.declared.types.Setpoint.TheVariants as Set
 use Rattle.guidance.specs.declared.plane.Former.{Former}
 use Rattle.guidance.specs.declared.plane.PlaneGuidance.{PlaneGuidance}
+use Rattle.guidance.specs.declared.plane.GuideCall.{GuideCall}
 use Rattle.guidance.specs.declared.plane.LateralLaw.{LateralLaw}
 use Rattle.guidance.specs.declared.plane.LateralLaw.TheVariants.{Track, Loiter, Idle}
 use Rattle.guidance.specs.declared.plane.VerticalLaw.{VerticalLaw}
@@ -46,6 +47,10 @@ use Rattle.guidance.specs.declared.plane.Vertical.{Vertical}
 use Rattle.guidance.specs.declared.plane.FlightMode.TheVariants as Mode
 use Rattle.guidance.specs.declared.plane.ModeRefusal.TheVariants as Why
 use Rattle.guidance.specs.declared.plane.FlightModeReport.{FlightModeReport}
+
+-- a waypoint's call
+abbrev pub WaypointCall : Type 0
+WaypointCall = GuideCall WaypointCommand
 
 -- ---- a fresh guidance, prime and set-configuration
 
@@ -81,6 +86,10 @@ cleared g regime = record { config = g.config; requested = regime; altitude = no
 -- prime
 unfoldable pub primed : PlaneGuidance → PlaneGuidance
 primed g = cleared g g.requested
+
+-- this guidance's configurations, and the rest as it is after a call
+abbrev pub taken_over : PlaneGuidance → PlaneGuidance → PlaneGuidance
+taken_over g after = record { config = g.config; requested = after.requested; altitude = after.altitude; tecs = after.tecs; former = g.former }
 
 -- An accepted change: the configuration that it replaces is kept.
 unfoldable pub with_config : PlaneGuidance → PlaneGuidanceConfig → PlaneGuidance

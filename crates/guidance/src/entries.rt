@@ -1,31 +1,20 @@
 // The calls on a guidance: it goes in by value and comes back with the answer.
 ghost use Rattle.std.specs.Prelude.{◌≡◌};
-ghost use Rattle.laws.specs.declared.types.ControlInput.TheVariants.{Waypoint};
+ghost use Rattle.laws.specs.declared.types.ControlInput.TheVariants as input;
 ghost use Rattle.guidance.specs.Plane as spec;
 ghost use Rattle.guidance.specs.Promises as contract;
 
 use crate::commands::{absolute_attitude, absolute_rate, neutral, rates, sticks};
 use crate::plane::{
-    Answer, FlightMode, FlightModeReport, Former, Guided, ModeRefusal, PlaneGuidance, WaypointCall,
+    Answer, FlightMode, FlightModeReport, Former, GuideCall, Guided, ModeRefusal, PlaneGuidance,
+    WaypointCall,
 };
-use crate::waypoint::{refusal, regime_number, waypoint};
-use arithmetic::order::is_finite;
-use laws::config::{InvalidConfig, PlaneGuidanceConfig, default, validate};
+use crate::waypoint::{refusal, waypoint};
+use laws::config::{InvalidConfig, PlaneGuidanceConfig, validate};
 use laws::navigation::PiLoop;
 use laws::tecs::reset;
-use laws::types::{ControlInput, FlightRegime, Setpoint, VehicleState, WaypointCommand};
+use laws::types::{ControlInput, FlightRegime, Setpoint, VehicleState};
 use refusals::Refusal;
-
-// No change to take back.
-#[tactic(auto, unfolding(crate::specs::Plane::no_former))]
-fn no_former() -> Former
-    ensures { result ≡ spec.no_former }
-{
-    Former {
-        kept: 0,
-        config: default(),
-    }
-}
 
 // The energy state and the altitude loop as `new` makes them.
 #[tactic(auto, unfolding(crate::specs::Plane::cleared))]
@@ -34,7 +23,7 @@ fn cleared(g: PlaneGuidance, requested: u32) -> PlaneGuidance
 {
     PlaneGuidance {
         requested,
-        altitude: PiLoop { integral: 0.0 },
+        altitude: PiLoop::default(),
         tecs: reset(),
         ..g
     }
@@ -46,42 +35,24 @@ fn commanded(g: PlaneGuidance, regime: FlightRegime, setpoint: Setpoint) -> Guid
     ensures { result ≡ spec.commanded g regime setpoint }
 {
     Guided {
-        guidance: cleared(g, regime_number(regime)),
+        guidance: cleared(g, regime as u32),
         answer: Ok(Answer::Commanded(setpoint)),
     }
 }
 
 #[tactic(auto, unfolding(crate::specs::Plane::obeyed))]
-fn obeyed(
-    g: PlaneGuidance,
-    dt: f32,
-    regime: FlightRegime,
-    input: ControlInput,
-    state: VehicleState,
-    cap: Option<f32>,
-) -> Guided
-    ensures { result ≡ spec.obeyed g dt regime input state cap }
+fn obeyed(g: PlaneGuidance, call: GuideCall<ControlInput>) -> Guided
+    ensures { result ≡ spec.obeyed g call.dt call.regime call.command call.state call.cap }
 {
-    let setpoint = match input {
+    let setpoint = match call.command {
         ControlInput::Attitude(command) => sticks(g.config, command),
         ControlInput::Rate(command) => rates(g.config, command),
-        ControlInput::Waypoint(command) => {
-            return waypoint::<false>(
-                g,
-                WaypointCall {
-                    dt,
-                    regime,
-                    command,
-                    state,
-                    cap,
-                },
-            );
-        }
+        ControlInput::Waypoint(command) => return waypoint::<false>(g, call.with(command)),
         ControlInput::AbsoluteAttitude(command) => absolute_attitude(command),
         ControlInput::Land => neutral(),
         ControlInput::AbsoluteRate(command) => absolute_rate(command),
     };
-    commanded(g, regime, setpoint)
+    commanded(g, call.regime, setpoint)
 }
 
 impl PlaneGuidance {
@@ -91,14 +62,15 @@ impl PlaneGuidance {
         validate(config)?;
         Ok(PlaneGuidance {
             config,
-            requested: 1,
-            altitude: PiLoop { integral: 0.0 },
+            requested: FlightRegime::Plane as u32,
+            altitude: PiLoop::default(),
             tecs: reset(),
-            former: no_former(),
+            former: Former::default(),
         })
     }
 
-    // The reference answer: a waypoint's pitch is held within the cap either way, where there is one.
+    // The reference answer: a waypoint's pitch is held within the cap either way, where there is one. Its parameters, and `guide`'s, are
+    // the Rust's own, a rule of the project.
     #[tactic(auto, using(crate::proofs::plane::Contracts::guides), unfolding(crate::specs::Plane::guided))]
     pub fn guide_capped(
         self,
@@ -110,8 +82,15 @@ impl PlaneGuidance {
     ) -> Guided
         ensures { contract.Guides self dt regime input state pitch_cap_rad result }
     {
-        if (dt > 0.0) & is_finite(dt) {
-            obeyed(self, dt, regime, input, state, pitch_cap_rad)
+        if (dt > 0.0) & dt.is_finite() {
+            let call = GuideCall {
+                dt,
+                regime,
+                command: input,
+                state,
+                cap: pitch_cap_rad,
+            };
+            obeyed(self, call)
         } else {
             refusal(self, Refusal::TimeStep)
         }
@@ -119,27 +98,11 @@ impl PlaneGuidance {
 
     // A waypoint's `guide_capped` for steps that follow each other, as a drawn path's do.
     #[tactic(auto, using(crate::proofs::plane::Contracts::guides), unfolding(crate::specs::Plane::guided))]
-    pub fn guide_step(
-        self,
-        dt: f32,
-        regime: FlightRegime,
-        w: WaypointCommand,
-        state: VehicleState,
-        pitch_cap_rad: Option<f32>,
-    ) -> Guided
-        ensures { contract.Guides self dt regime (Waypoint w) state pitch_cap_rad result }
+    pub fn guide_step(self, call: WaypointCall) -> Guided
+        ensures { contract.Guides self call.dt call.regime (input.Waypoint call.command) call.state call.cap result }
     {
-        if (dt > 0.0) & is_finite(dt) {
-            waypoint::<true>(
-                self,
-                WaypointCall {
-                    dt,
-                    regime,
-                    command: w,
-                    state,
-                    cap: pitch_cap_rad,
-                },
-            )
+        if (call.dt > 0.0) & call.dt.is_finite() {
+            waypoint::<true>(self, call)
         } else {
             refusal(self, Refusal::TimeStep)
         }
@@ -182,7 +145,7 @@ impl PlaneGuidance {
     }
 
     // Document 02, K11: the configuration before the last accepted change is in force again and is forgotten; the integrals stay.
-    #[tactic(auto, unfolding(crate::specs::Plane::taken_back, crate::specs::Plane::restored))]
+    #[tactic(auto, unfolding(crate::specs::Plane::taken_back, crate::specs::Plane::restored, crate::specs::Plane::no_former))]
     pub fn take_back(self) -> Result<PlaneGuidance, Refusal>
         ensures { result ≡ spec.taken_back self }
     {
@@ -191,7 +154,7 @@ impl PlaneGuidance {
         }
         Ok(PlaneGuidance {
             config: self.former.config,
-            former: no_former(),
+            former: Former::default(),
             ..self
         })
     }
@@ -201,15 +164,19 @@ impl PlaneGuidance {
     pub fn flight_mode(self) -> FlightModeReport
         ensures { result ≡ spec.flight_mode self }
     {
-        let refusal = if self.requested == 0 {
-            Some(ModeRefusal::Unsupported)
-        } else {
-            None
-        };
         FlightModeReport {
             mode: FlightMode::Plane,
-            refusal,
+            refusal: (self.requested == 0).then_some(ModeRefusal::Unsupported),
         }
+    }
+
+    // Takes over what a call's answer changes: no guide call or prime changes a configuration, so they are not copied.
+    pub fn take_over(&mut self, after: PlaneGuidance)
+        ensures { self.new ≡ spec.taken_over self.old after }
+    {
+        self.requested = after.requested;
+        self.altitude = after.altitude;
+        self.tecs = after.tecs;
     }
 
     // Whether the stall guard stands: underspeed, as the energy state has it.

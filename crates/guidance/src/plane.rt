@@ -1,4 +1,6 @@
 // A guidance, and what its calls answer: plane.rs.
+ghost use Rattle.std.specs.Prelude.{◌≡◌};
+
 use laws::config::PlaneGuidanceConfig;
 use laws::navigation::PiLoop;
 use laws::tecs::Tecs;
@@ -10,7 +12,7 @@ use refusals::Refusal;
 // Document 02, K11: the configuration before the last accepted change. `kept` is 0 where there is none to take back; the numbers
 // are then the default configuration's.
 #[repr(C)]
-#[derive(Clone, Copy)]
+#[derive(Clone, Copy, Default)]
 pub struct Former {
     pub kept: u32,
     pub config: PlaneGuidanceConfig,
@@ -27,15 +29,32 @@ pub struct PlaneGuidance {
     pub former: Former,
 }
 
-// A waypoint call: what `guide_step` takes besides the guidance.
+// What a guide call takes besides the guidance. C is its command: `ControlInput`, a waypoint, or () where the command is not known yet.
 #[derive(Clone, Copy)]
-pub struct WaypointCall {
+pub struct GuideCall<C> {
     pub dt: f32,
     pub regime: FlightRegime,
-    pub command: WaypointCommand,
+    pub command: C,
     pub state: VehicleState,
     pub cap: Option<f32>,
 }
+
+impl<C: Copy> GuideCall<C> {
+    // The same call with another command.
+    pub fn with<D>(self, command: D) -> GuideCall<D>
+        ensures { result ≡ record { dt = self.dt; regime = self.regime; command = command; state = self.state; cap = self.cap } }
+    {
+        GuideCall {
+            dt: self.dt,
+            regime: self.regime,
+            command,
+            state: self.state,
+            cap: self.cap,
+        }
+    }
+}
+
+pub type WaypointCall = GuideCall<WaypointCommand>;
 
 #[derive(Clone, Copy)]
 pub enum LateralLaw {
@@ -73,7 +92,8 @@ pub enum Answer {
     Waypoint(WaypointAnswer),
 }
 
-// The guidance after a guide call, which a refusal leaves as it was, and the call's answer.
+// The guidance after a guide call, which a refusal leaves as it was, and the call's answer. Not a Result of both: whoever runs a list of
+// calls goes on with the guidance after each, refused or not.
 #[derive(Clone, Copy)]
 pub struct Guided {
     pub guidance: PlaneGuidance,
@@ -88,7 +108,7 @@ pub struct Steered {
     pub cross_track_m: f32,
 }
 
-// What a vertical law would answer and store; a refusal with number 4 stores none of it.
+// What a vertical law would answer and store; `Refusal::NotFinite` stores none of it.
 #[derive(Clone, Copy)]
 pub struct Vertical {
     pub pitch_rad: f32,
@@ -97,6 +117,7 @@ pub struct Vertical {
     pub tecs: Tecs,
 }
 
+// The Rust's own enum beside `FlightRegime`: what is flown, and not what is asked for.
 #[derive(Clone, Copy)]
 pub enum FlightMode {
     Copter,

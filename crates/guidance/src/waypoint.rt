@@ -17,13 +17,6 @@ use laws::types::{
 };
 use refusals::Refusal;
 
-// 0 copter, 1 plane: the order in which the regimes are declared.
-pub fn regime_number(regime: FlightRegime) -> u32
-    ensures { result ≡ spec.regime_number regime }
-{
-    regime as u32
-}
-
 fn bad_cap(cap: Option<f32>) -> bool
     ensures { result ≡ spec.bad_cap cap }
 {
@@ -49,6 +42,7 @@ fn on_energy_path(w: WaypointCommand, state: VehicleState) -> bool
     (w.cruise_speed_mps > 0.0) & valid_airspeed_mps(state).is_some()
 }
 
+// As the definition `inputs`: without an airspeed they are not flown. No From: a call is more than these inputs.
 #[tactic(auto, unfolding(crate::specs::Plane::inputs))]
 fn inputs_of(call: WaypointCall) -> Inputs
     ensures { result ≡ spec.inputs call.dt call.command call.state }
@@ -64,6 +58,7 @@ fn inputs_of(call: WaypointCall) -> Inputs
     }
 }
 
+// The law by its name, which the answer has too: no closure in its place.
 #[tactic(auto, unfolding(crate::specs::Plane::vertical_law))]
 fn vertical_law(call: WaypointCall) -> VerticalLaw
     ensures { result ≡ spec.vertical_law call.dt call.command call.state }
@@ -129,7 +124,7 @@ fn on_path(o: TecsResult) -> Vertical
     Vertical {
         pitch_rad: o.pitch_rad,
         thrust: o.thrust,
-        altitude: PiLoop { integral: 0.0 },
+        altitude: PiLoop::default(),
         tecs: o.tecs,
     }
 }
@@ -206,19 +201,22 @@ pub fn refusal(g: PlaneGuidance, why: Refusal) -> Guided
     }
 }
 
-// The answer, and the guidance with what the vertical law stores.
-fn flown(
+// The answer, and the guidance with what the vertical law stores; number 4 where a number would not be finite.
+fn settled(
     g: PlaneGuidance,
     regime: FlightRegime,
     lateral: Steered,
     law: VerticalLaw,
     v: Vertical,
 ) -> Guided
-    ensures { result ≡ spec.flown g regime lateral law v }
+    ensures { result ≡ spec.settled g regime lateral law v }
 {
+    if !all_finite(v) {
+        return refusal(g, Refusal::NotFinite);
+    }
     Guided {
         guidance: PlaneGuidance {
-            requested: regime_number(regime),
+            requested: regime as u32,
             altitude: v.altitude,
             tecs: v.tecs,
             ..g
@@ -235,23 +233,6 @@ fn flown(
             },
             cross_track_m: lateral.cross_track_m,
         })),
-    }
-}
-
-// Number 4 where a number would not be finite.
-fn settled(
-    g: PlaneGuidance,
-    regime: FlightRegime,
-    lateral: Steered,
-    law: VerticalLaw,
-    v: Vertical,
-) -> Guided
-    ensures { result ≡ spec.settled g regime lateral law v }
-{
-    if all_finite(v) {
-        flown(g, regime, lateral, law, v)
-    } else {
-        refusal(g, Refusal::NotFinite)
     }
 }
 

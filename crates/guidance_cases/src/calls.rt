@@ -2,21 +2,14 @@
 use arithmetic::vector::Vec2;
 use case_rows::{Row, from_bits};
 use config_numbers::config_of_bits;
+use guidance::plane::GuideCall;
 use laws::config::PlaneGuidanceConfig;
 use laws::types::{
     AbsoluteAttitudeCommand, AbsoluteRateCommand, AttitudeCommand, ControlInput, FlightRegime,
     RateCommand, Vec3, VehicleState, WaypointCommand,
 };
 
-// What a guide call takes besides the guidance.
-#[derive(Clone, Copy)]
-pub struct Guide {
-    pub dt: f32,
-    pub regime: FlightRegime,
-    pub input: ControlInput,
-    pub state: VehicleState,
-    pub cap: Option<f32>,
-}
+pub type Guide = GuideCall<ControlInput>;
 
 // A call on a guidance.
 #[derive(Clone, Copy)]
@@ -44,13 +37,13 @@ impl Call {
         }
     }
 
-    fn guide(row: &Row, input: ControlInput) -> Call {
-        Call::Guide(Guide {
+    fn guide(row: &Row, command: ControlInput) -> Call {
+        Call::Guide(GuideCall {
             dt: from_bits(row.words[2]),
-            regime: regime(row.words[1]),
-            input,
+            regime: FlightRegime::try_from(row.words[1]).unwrap_or(FlightRegime::Plane),
+            command,
             state: sensors(row),
-            cap: option(row.words(23)),
+            cap: given(row.words[23], from_bits(row.words[24])),
         })
     }
 }
@@ -59,6 +52,7 @@ pub fn config(row: &Row) -> PlaneGuidanceConfig {
     config_of_bits(row.words(1))
 }
 
+// Also in laws_cases: case_rows, on which both stand, knows no vectors.
 fn vec2([x, y]: [f32; 2]) -> Vec2 {
     Vec2 { x, y }
 }
@@ -67,21 +61,9 @@ fn vec3([x, y, z]: [f32; 3]) -> Vec3 {
     Vec3 { x, y, z }
 }
 
-// A number that may be missing: a word that says so, and the number.
-fn option([stands, number]: [u32; 2]) -> Option<f32> {
-    (stands != 0).then(|| from_bits(number))
-}
-
-fn leg([stands, x, y]: [u32; 3]) -> Option<Vec2> {
-    (stands != 0).then(|| vec2([x, y].map(from_bits)))
-}
-
-fn regime(number: u32) -> FlightRegime {
-    if number == 0 {
-        FlightRegime::Copter
-    } else {
-        FlightRegime::Plane
-    }
+// A value that is missing where its word is 0. As call_numbers', a crate of the hosts'.
+fn given<T: Drop>(stands: u32, value: T) -> Option<T> {
+    (stands != 0).then_some(value)
 }
 
 fn attitude(row: &Row) -> AttitudeCommand {
@@ -107,7 +89,7 @@ fn waypoint(row: &Row) -> WaypointCommand {
     let [altitude_m, cruise_speed_mps] = row.numbers::<2>(12);
     WaypointCommand {
         position_m: vec2(row.numbers(7)),
-        velocity_mps: leg(row.words(9)),
+        velocity_mps: given(row.words[9], vec2(row.numbers(10))),
         altitude_m,
         cruise_speed_mps,
     }
@@ -137,6 +119,6 @@ fn sensors(row: &Row) -> VehicleState {
         position_m: vec3(row.numbers(14)),
         velocity_mps: vec3(row.numbers(17)),
         roll_rad: from_bits(row.words[20]),
-        airspeed_mps: option(row.words(21)),
+        airspeed_mps: given(row.words[21], from_bits(row.words[22])),
     }
 }

@@ -1,11 +1,12 @@
 // Runs a row's call, and says whether the answer and the stored state are the row's.
 use crate::calls::{Call, Guide, config};
+use case_rows::energy::energy_words;
 use case_rows::{Row, to_bits};
 use guidance::plane::{Answer, Guided, PlaneGuidance};
 use laws::types::Setpoint;
 use refusals::Refusal;
 
-// The number of a row that makes a guidance.
+// The number of a row that makes a guidance. No variant of `Call`, which needs a guidance.
 const NEW: u32 = 8;
 
 // A setpoint's number, 1 for a plane setpoint and 2 for a rate setpoint, and its numbers' bits.
@@ -58,25 +59,10 @@ fn answer_words(answer: Result<Answer, Refusal>) -> [u32; 8] {
     }
 }
 
-// Words 42 to 52. The last nine are the energy state's; laws_cases lists them too, since case_rows, which the two share, knows no law.
-fn state_words(g: &PlaneGuidance) -> [u32; 11] {
-    [
-        g.requested,
-        to_bits(g.altitude.integral),
-        g.tecs.seeded,
-        to_bits(g.tecs.demand.slewed_height_m),
-        to_bits(g.tecs.demand.height_m),
-        to_bits(g.tecs.demand.airspeed_mps),
-        to_bits(g.tecs.filtered_airspeed_mps),
-        to_bits(g.tecs.steady_accel_mps2),
-        to_bits(g.tecs.pitch_integral_rad),
-        to_bits(g.tecs.thrust_integral),
-        g.tecs.underspeed,
-    ]
-}
-
+// Words 42 to 52.
 fn is_state(row: &Row, g: &PlaneGuidance) -> bool {
-    row.words(42) == state_words(g)
+    let stored = [g.requested, to_bits(g.altitude.integral)];
+    row.words(42) == stored && row.words(44) == energy_words(g.tecs)
 }
 
 // The mode report, as the Rust numbers it, and the stall guard, which stands where the oracle's stored underspeed does.
@@ -89,12 +75,12 @@ fn is_report(row: &Row, g: &PlaneGuidance) -> bool {
 // `guide` where the row has no cap.
 fn guided(g: &PlaneGuidance, c: Guide) -> Guided {
     match c.cap {
-        None => g.guide(c.dt, c.regime, c.input, c.state),
-        cap => g.guide_capped(c.dt, c.regime, c.input, c.state, cap),
+        None => g.guide(c.dt, c.regime, c.command, c.state),
+        cap => g.guide_capped(c.dt, c.regime, c.command, c.state, cap),
     }
 }
 
-// Takes over what a change makes of the guidance; the number that it is refused with, or 0.
+// Takes over what a change makes of the guidance; the number that it is refused with, or 0, as the row has it.
 fn take_over(g: &mut PlaneGuidance, changed: Result<PlaneGuidance, u32>) -> u32 {
     match changed {
         Ok(after) => {

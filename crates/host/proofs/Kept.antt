@@ -1,7 +1,7 @@
--- A guide or prime call keeps the configuration in force and the kept one, whoever sends it, so that they need not be put back. And
+-- A guide or prime call keeps the configuration in force and the kept one, whoever sends it. And
 -- the code's branch for changes is the definition.
 -- Assumes nothing.
-use Rattle.std.proofs.Common.{ℕ, Bool, true, false, cond, not, T, eqb, List, ◌≡◌, refl, ap, sym, ◌∙◌, Result, Ok, Err}
+use Rattle.std.proofs.Common.{ℕ, Bool, true, false, cond, not, T, eqb, List, ◌≡◌, refl, ap, ◌∙◌, Result, Ok, Err}
 use Rattle.std.specs.Prelude.{⊤}
 use Rattle.refusals.specs.declared.Refusal.{Refusal}
 use Rattle.refusals.specs.declared.Refusal.TheVariants as why
@@ -9,8 +9,9 @@ use borrow.Author.Tests.{eqb-true}
 use Rattle.laws.specs.declared.config.InvalidConfig.{InvalidConfig}
 use Rattle.laws.specs.declared.config.PlaneGuidanceConfig.{PlaneGuidanceConfig}
 use Rattle.laws.specs.Config.{validate, judged}
-use Rattle.guidance.specs.Plane.{cleared, primed, with_config, configured}
-use Rattle.claims.specs.Calls.{Settings, set_config, configured_by, perform, settings_of}
+use Rattle.guidance.specs.Plane.{cleared, primed, taken_over, with_config, configured}
+use Rattle.guidance.proofs.plane.Kept.{guided_keeps}
+use Rattle.claims.specs.Calls.{set_config, configured_by, perform}
 use Rattle.host_answers.specs.Answer.{of_field, of_reply}
 use Rattle.guidance.specs.declared.plane.PlaneGuidance.{PlaneGuidance}
 use Rattle.records.specs.Call.{read_call}
@@ -18,7 +19,6 @@ use Rattle.records.specs.declared.call.Call.{Call}
 use Rattle.records.specs.declared.call.Call.TheVariants.{Prime, Attitude, Rate, Waypoint, AbsoluteAttitude, Land, AbsoluteRate}
 use Rattle.records.specs.declared.call.ReadCall.{ReadCall}
 use Rattle.calls.specs.Calls.{call_of}
-use Rattle.host_answers.proofs.Kept.{guided_keeps}
 use Rattle.rights.specs.Rights.{may}
 use Rattle.rights.specs.declared.Deed.{Deed}
 use Rattle.rights.specs.declared.Deed.TheVariants as deed
@@ -26,7 +26,7 @@ use Rattle.host.specs.Run.{of_call, refused, performed, made, run_call, run_conf
 use Rattle.host.specs.Code.Dispatch.{change, change_by}
 use Rattle.host.specs.declared.run.Ran.{Ran}
 
-call_keeps : (g : PlaneGuidance) (k : Call) → settings_of (perform g (call_of k)).next ≡ settings_of g
+call_keeps : (g : PlaneGuidance) (k : Call) → taken_over g (perform g (call_of k)).next ≡ (perform g (call_of k)).next
 unfolding perform primed cleared
 call_keeps g Prime = refl
 call_keeps g (Attitude r dt c) = guided_keeps g dt r _ _ _
@@ -36,32 +36,27 @@ call_keeps g (AbsoluteAttitude r dt c) = guided_keeps g dt r _ _ _
 call_keeps g (Land r dt) = guided_keeps g dt r _ _ _
 call_keeps g (AbsoluteRate r dt c) = guided_keeps g dt r _ _ _
 
-read_keeps : (g : PlaneGuidance) (r : Result ReadCall Refusal) → settings_of (of_call g r).guidance ≡ settings_of g
+read_keeps : (g : PlaneGuidance) (r : Result ReadCall Refusal) → taken_over g (of_call g r).guidance ≡ (of_call g r).guidance
 unfolding performed
 read_keeps g (Err why) = refl
 read_keeps g (Ok r) = call_keeps g r.call
 
-run_keeps : (g : PlaneGuidance) (bytes : List ℕ) → settings_of (run g 0 bytes).guidance ≡ settings_of g
+run_keeps : (g : PlaneGuidance) (bytes : List ℕ) → taken_over g (run g 0 bytes).guidance ≡ (run g 0 bytes).guidance
 unfolding run run_call
 run_keeps g bytes = read_keeps g (read_call bytes 0)
 
-pub run_by_keeps : (g : PlaneGuidance) (caller : ℕ) (bytes : List ℕ) → settings_of (run_by g caller 0 bytes).guidance ≡ settings_of g
+pub run_by_keeps : (g : PlaneGuidance) (caller : ℕ) (bytes : List ℕ) → taken_over g (run_by g caller 0 bytes).guidance ≡ (run_by g caller 0 bytes).guidance
 unfolding run_by
 run_by_keeps g caller bytes = go (may caller (deed_of 0))
   where
-    go : (b : Bool) → settings_of (cond b (run g 0 bytes) (refused g why.NoRight)).guidance ≡ settings_of g
+    go : (b : Bool) → let r = cond b (run g 0 bytes) (refused g why.NoRight) in taken_over g r.guidance ≡ r.guidance
     go true = run_keeps g bytes
     go false = refl
 
--- a guidance with other settings
-abbrev put : PlaneGuidance → Settings → PlaneGuidance
-put g t = record { config = t.config; requested = g.requested; altitude = g.altitude; tecs = g.tecs; former = t.former }
-
--- what `nuthkolla_run` leaves where it puts three fields back
-pub put_back : (g : PlaneGuidance) (caller : ℕ) (bytes : List ℕ) (r : Ran) → r ≡ run_by g caller 0 bytes
-    → put r.guidance (settings_of g) ≡ (run_by g caller 0 bytes).guidance
-put_back g caller bytes r e =
-    ap (λ (y : Ran). put y.guidance (settings_of g)) e ∙ sym (ap (put (run_by g caller 0 bytes).guidance) (run_by_keeps g caller bytes))
+-- what `nuthkolla_run` leaves after a call
+pub taken : (g : PlaneGuidance) (caller : ℕ) (bytes : List ℕ) (r : Ran) → r ≡ run_by g caller 0 bytes
+    → taken_over g r.guidance ≡ (run_by g caller 0 bytes).guidance
+taken g caller bytes r e = ap (λ (y : Ran). taken_over g y.guidance) e ∙ run_by_keeps g caller bytes
 
 -- where the number is not 0
 pub change_run : (g : PlaneGuidance) (caller what : ℕ) (bytes : List ℕ) → eqb what 0 ≡ false → change_by g caller what bytes ≡ run_by g caller what bytes

@@ -2,15 +2,15 @@
 ghost use Rattle.std.specs.Prelude.{◌≡◌};
 ghost use Rattle.laws.specs.Config as settings;
 
-use laws::config::{PlaneGuidanceConfig, default, validate};
+use laws::config::{PlaneGuidanceConfig, validate};
 
 pub fn nuthkolla_default_config() -> PlaneGuidanceConfig
     ensures { result ≡ settings.default }
 {
-    default()
+    PlaneGuidanceConfig::default()
 }
 
-// 0, or the number of the first failing field.
+// For C: 0, or the number of the first failing field.
 pub fn nuthkolla_validate(config: PlaneGuidanceConfig) -> u32
     ensures { result ≡ settings.validate config }
 {

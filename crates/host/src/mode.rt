@@ -6,8 +6,8 @@ use guidance::plane::{ModeRefusal, PlaneGuidance};
 use refusals::Refusal;
 use rights::{Deed, may};
 
-// refusal: 0 or the refusal's number; value: of the mode 0, or 1 where the request is unsupported (always plane); of the stall
-// guard 1 where it stands, else 0. Refused, the value is 0.
+// For C. refusal: 0 or the refusal's number; value: of the mode 0, or 1 where the request is unsupported (the mode is always
+// plane); of the stall guard 1 where it stands, else 0. Refused, the value is 0.
 #[repr(C)]
 #[derive(Clone, Copy)]
 pub struct Report {
@@ -15,6 +15,7 @@ pub struct Report {
     pub value: u32,
 }
 
+// A match, and not `is_some`: a second refusal would ask for its number here.
 fn mode_value(g: PlaneGuidance) -> u32
     ensures { result ≡ spec.mode_value g }
 {
@@ -22,12 +23,6 @@ fn mode_value(g: PlaneGuidance) -> u32
         None => 0,
         Some(ModeRefusal::Unsupported) => 1,
     }
-}
-
-fn guard_value(g: PlaneGuidance) -> u32
-    ensures { result ≡ spec.guard_value g }
-{
-    u32::from(g.stall_guard())
 }
 
 #[tactic(auto, unfolding(crate::specs::Mode::deed_of))]
@@ -41,6 +36,7 @@ fn deed_of(what: u32) -> Deed
     }
 }
 
+// No From a Result here: what is reported has its number in `reported`, the refusal in the table of refusals.
 fn told(value: u32) -> Report
     ensures { result ≡ spec.told value }
 {
@@ -61,7 +57,7 @@ fn reported(g: PlaneGuidance, deed: Deed) -> Report
 {
     match deed {
         Deed::ModeReport => told(mode_value(g)),
-        Deed::GuardReport => told(guard_value(g)),
+        Deed::GuardReport => told(u32::from(g.stall_guard())),
         _ => refused(Refusal::UnknownRequest),
     }
 }

@@ -2,10 +2,10 @@
 ghost use Rattle.std.specs.Prelude.{◌≡◌};
 ghost use Rattle.host.specs.Reading as spec;
 
-use laws::config::{PlaneGuidanceConfig, default};
+use laws::config::PlaneGuidanceConfig;
 use records::config::read_config;
 
-// A configuration that was read; the defaults where it was refused.
+// For C: a configuration that was read; the defaults where it was refused. One function answers it: a match there is as plain as a From.
 #[repr(C)]
 #[derive(Clone, Copy)]
 pub struct ConfigRead {
@@ -23,7 +23,7 @@ pub fn nuthkolla_read_config(bytes: &[u8], at: usize) -> ConfigRead
         Err(why) => ConfigRead {
             refusal: why.number(),
             next: 0,
-            config: default(),
+            config: PlaneGuidanceConfig::default(),
         },
         Ok(read) => ConfigRead {
             refusal: 0,

@@ -1,19 +1,20 @@
-// The thin entry, by reference: the host's guidance is taken apart, `call_by` or `change_by` does the work by value, and the fields
-// that it may have changed are put back.
+// The thin entry, by reference: the host's guidance is copied, `call_by` or `change_by` works on the copy by value, and what it may have
+// changed is put back.
 ghost use Rattle.std.specs.Prelude.{◌≡◌};
 ghost use Rattle.host.specs.Run as spec;
 ghost use Rattle.host.specs.Code.Dispatch as code;
 
 use calls::perform;
 use guidance::plane::PlaneGuidance;
-use host_answers::answer::{RunAnswer, bare, of_invalid, of_reply};
+use host_answers::answer::{RunAnswer, of_answer, of_invalid, of_reply};
 use laws::config::InvalidConfig;
 use records::call::read_call;
 use records::config::read_config;
 use refusals::Refusal;
 use rights::{Deed, may};
 
-// The guidance after a call, and the call's answer.
+// The guidance after a call, and the call's answer. host_routes' `RouteRan` is its like: a generic of both would stand in a third crate for
+// two fields.
 #[derive(Clone, Copy)]
 pub struct Ran {
     pub guidance: PlaneGuidance,
@@ -26,11 +27,12 @@ fn refused(g: PlaneGuidance, why: Refusal) -> Ran
 {
     Ran {
         guidance: g,
-        answer: bare(why.number(), 0, 0),
+        answer: of_answer(Err(why), 0),
     }
 }
 
 // The guidance after a configuration that passes, or the one that was there.
+#[tactic(auto, unfolding(host_answers::specs::Answer::bare))]
 fn judged(g: PlaneGuidance, done: Result<PlaneGuidance, InvalidConfig>, next: usize) -> Ran
     ensures { result ≡ spec.made g done next }
 {
@@ -41,7 +43,10 @@ fn judged(g: PlaneGuidance, done: Result<PlaneGuidance, InvalidConfig>, next: us
         },
         Ok(guidance) => Ran {
             guidance,
-            answer: bare(0, 0, next),
+            answer: RunAnswer {
+                next,
+                ..RunAnswer::default()
+            },
         },
     }
 }
@@ -72,6 +77,7 @@ fn run_config(g: PlaneGuidance, bytes: &[u8]) -> Ran
     }
 }
 
+// Not one function with `run_config`: it would need a closure's contract in place of a call.
 #[tactic(auto, unfolding(crate::specs::Run::run_new))]
 fn run_new(g: PlaneGuidance, bytes: &[u8]) -> Ran
     ensures { result ≡ spec.run_new g bytes.now }
@@ -83,7 +89,7 @@ fn run_new(g: PlaneGuidance, bytes: &[u8]) -> Ran
 }
 
 // A change taken back (document 02, K11); no byte is read.
-#[tactic(auto, unfolding(crate::specs::Run::run_back, crate::specs::Run::performed, claims::specs::Calls::perform))]
+#[tactic(auto, unfolding(crate::specs::Run::run_back, crate::specs::Run::performed, claims::specs::Calls::perform, host_answers::specs::Answer::bare))]
 fn run_back(g: PlaneGuidance) -> Ran
     ensures { result ≡ spec.run_back g }
 {
@@ -91,12 +97,13 @@ fn run_back(g: PlaneGuidance) -> Ran
         Err(why) => refused(g, why),
         Ok(guidance) => Ran {
             guidance,
-            answer: bare(0, 0, 0),
+            answer: RunAnswer::default(),
         },
     }
 }
 
-// What a number asks for. A call record is a guide or a prime, which the same callers may do.
+// What a number asks for. A call record is a guide or a prime, which the same callers may do. No From<u32> for Deed, here and in
+// `mode`: the two tables give one number to two deeds.
 #[tactic(auto, unfolding(crate::specs::Run::deed_of))]
 fn deed_of(what: u32) -> Deed
     ensures { result ≡ spec.deed_of what }
@@ -146,9 +153,9 @@ pub fn change_by(g: PlaneGuidance, caller: u32, what: u32, bytes: &[u8]) -> Ran
     }
 }
 
-// What is asked for stays a number in what C calls: no enum of C's is safe to read as ours.
-// A call changes no configuration, neither the one in force nor the kept one, so they are not put back; and since calls have a branch
-// of their own, the kept one is not even read.
+// What is asked for and who asks stay numbers in what C calls: no enum of C's is safe to read as ours. The caller stays one down to `may`,
+// which alone judges it.
+// A call changes no configuration; since calls have a branch of their own, the kept one is not even read.
 pub fn nuthkolla_run(
     guidance: &mut PlaneGuidance,
     caller: u32,
@@ -160,17 +167,11 @@ pub fn nuthkolla_run(
     let g = *guidance;
     if what == 0 {
         let r = call_by(g, caller, bytes);
-        guidance.requested = r.guidance.requested;
-        guidance.altitude = r.guidance.altitude;
-        guidance.tecs = r.guidance.tecs;
+        guidance.take_over(r.guidance);
         r.answer
     } else {
         let r = change_by(g, caller, what, bytes);
-        guidance.config = r.guidance.config;
-        guidance.requested = r.guidance.requested;
-        guidance.altitude = r.guidance.altitude;
-        guidance.tecs = r.guidance.tecs;
-        guidance.former = r.guidance.former;
+        *guidance = r.guidance;
         r.answer
     }
 }

@@ -1,5 +1,5 @@
 -- An agreement's answer as numbers. Definitions only.
-use Rattle.std.specs.Prelude.{ℕ, Option, Result, Ok, Err, unwrap_or}
+use Rattle.std.specs.Prelude.{ℕ, Result, Ok, Err, unwrap_or}
 use Rattle.refusals.specs.Numbers.{number}
 use Rattle.compaction.specs.declared.BadRecording.{BadRecording}
 use Rattle.compaction.specs.declared.BadRecording.TheVariants as bad

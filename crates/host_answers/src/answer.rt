@@ -1,5 +1,6 @@
 // Answers as numbers, for hosts that know no enum.
 ghost use Rattle.std.specs.Prelude.{◌≡◌};
+ghost use Rattle.arithmetic.specs.Constants.{n0};
 ghost use Rattle.calls.specs.Calls.{as_reply};
 ghost use Rattle.host_answers.specs.Answer as spec;
 
@@ -14,7 +15,7 @@ use refusals::Refusal;
 // cross_track_m: of a waypoint the distance off its line, right positive, else +0; next: the place after the record, 0 where
 // no record was read.
 #[repr(C)]
-#[derive(Clone, Copy)]
+#[derive(Clone, Copy, Default)]
 pub struct RunAnswer {
     pub refusal: u32,
     pub field: u32,
@@ -29,26 +30,21 @@ pub struct RunAnswer {
     pub next: usize,
 }
 
-// An answer without a setpoint.
+// A configuration that is refused, with its failing field.
 #[tactic(auto, unfolding(crate::specs::Answer::bare))]
-pub fn bare(refusal: u32, field: u32, next: usize) -> RunAnswer
-    ensures { result ≡ spec.bare refusal «field» next }
+pub fn of_invalid(invalid: InvalidConfig, next: usize) -> RunAnswer
+    ensures { result ≡ spec.bare 1 invalid.field next }
 {
     RunAnswer {
-        refusal,
-        field,
-        setpoint: 0,
-        lateral: 0,
-        vertical: 0,
-        roll: 0.0,
-        pitch: 0.0,
-        yaw: 0.0,
-        thrust: 0.0,
-        cross_track_m: 0.0,
+        // `Refusal` has all numbers but a configuration's.
+        refusal: 1,
+        field: invalid.field,
         next,
+        ..RunAnswer::default()
     }
 }
 
+// A match, here and below: neither the law nor u32 is of this crate, so that no From can be written, and 0 stands for no law.
 fn lateral_number(law: LateralLaw) -> u32
     ensures { result ≡ spec.lateral_number law }
 {
@@ -69,14 +65,9 @@ fn vertical_number(law: VerticalLaw) -> u32
     }
 }
 
-fn of_setpoint(
-    setpoint: Setpoint,
-    lateral: u32,
-    vertical: u32,
-    cross_track_m: f32,
-    next: usize,
-) -> RunAnswer
-    ensures { result ≡ spec.of_setpoint setpoint lateral vertical cross_track_m next }
+// A setpoint's answer, without a waypoint's laws and distance.
+fn of_setpoint(setpoint: Setpoint, next: usize) -> RunAnswer
+    ensures { result ≡ spec.of_setpoint setpoint 0 0 n0 next }
 {
     match setpoint {
         Setpoint::Plane {
@@ -84,17 +75,12 @@ fn of_setpoint(
             pitch_rad,
             thrust,
         } => RunAnswer {
-            refusal: 0,
-            field: 0,
             setpoint: 1,
-            lateral,
-            vertical,
             roll: roll_rad,
             pitch: pitch_rad,
-            yaw: 0.0,
             thrust,
-            cross_track_m,
             next,
+            ..RunAnswer::default()
         },
         Setpoint::PlaneRate {
             roll_radps,
@@ -102,50 +88,48 @@ fn of_setpoint(
             yaw_radps,
             thrust,
         } => RunAnswer {
-            refusal: 0,
-            field: 0,
             setpoint: 2,
-            lateral,
-            vertical,
             roll: roll_radps,
             pitch: pitch_radps,
             yaw: yaw_radps,
             thrust,
-            cross_track_m,
             next,
+            ..RunAnswer::default()
         },
     }
 }
 
-// No From here and below: the place after the record comes with the answer, and a pair would be no plainer.
+// No From here and in `of_invalid` and `of_reply`: the place after the record is no part of what they answer, so that a From would
+// take a pair, made at each call.
+#[tactic(auto, unfolding(crate::specs::Answer::bare))]
 pub fn of_answer(answer: Result<Answer, Refusal>, next: usize) -> RunAnswer
     ensures { result ≡ spec.of_answer answer next }
 {
     match answer {
-        Err(why) => bare(why.number(), 0, next),
-        Ok(Answer::Commanded(setpoint)) => of_setpoint(setpoint, 0, 0, 0.0, next),
-        Ok(Answer::Waypoint(w)) => of_setpoint(
-            w.setpoint,
-            lateral_number(w.laws.lateral),
-            vertical_number(w.laws.vertical),
-            w.cross_track_m,
+        Err(why) => RunAnswer {
+            refusal: why.number(),
             next,
-        ),
+            ..RunAnswer::default()
+        },
+        Ok(Answer::Commanded(setpoint)) => of_setpoint(setpoint, next),
+        Ok(Answer::Waypoint(w)) => RunAnswer {
+            lateral: lateral_number(w.laws.lateral),
+            vertical: vertical_number(w.laws.vertical),
+            cross_track_m: w.cross_track_m,
+            ..of_setpoint(w.setpoint, next)
+        },
     }
 }
 
+#[tactic(auto, unfolding(crate::specs::Answer::bare))]
 pub fn of_reply(reply: Reply, next: usize) -> RunAnswer
     ensures { result ≡ spec.of_reply (as_reply reply) next }
 {
     match reply {
-        Reply::Answered(answer) => of_answer(answer, next),
-        Reply::Primed => bare(0, 0, next),
+        Some(answer) => of_answer(answer, next),
+        None => RunAnswer {
+            next,
+            ..RunAnswer::default()
+        },
     }
-}
-
-// A configuration that is refused, with its failing field.
-pub fn of_invalid(invalid: InvalidConfig, next: usize) -> RunAnswer
-    ensures { result ≡ spec.bare 1 invalid.field next }
-{
-    bare(1, invalid.field, next)
 }

@@ -4,7 +4,7 @@ ghost use Rattle.host_answers.specs.Place as spec;
 
 use refusals::Refusal;
 
-// refusal: 0 or the refusal's number; next: the place after the record, 0 where there is none.
+// For C. refusal: 0 or the refusal's number; next: the place after the record, 0 where there is none.
 #[repr(C)]
 #[derive(Clone, Copy)]
 pub struct Place {
@@ -12,15 +12,16 @@ pub struct Place {
     pub next: usize,
 }
 
-// No From: each caller would have to name the type that it turns into, and this name says it.
-pub fn place_of(written: Result<usize, Refusal>) -> Place
-    ensures { result ≡ spec.place_of written }
-{
-    match written {
-        Ok(next) => Place { refusal: 0, next },
-        Err(why) => Place {
-            refusal: why.number(),
-            next: 0,
-        },
+impl From<Result<usize, Refusal>> for Place {
+    ghost from_gives = { λ written p. p ≡ spec.place_of written };
+
+    fn from(written: Result<usize, Refusal>) -> Place {
+        match written {
+            Ok(next) => Place { refusal: 0, next },
+            Err(why) => Place {
+                refusal: why.number(),
+                next: 0,
+            },
+        }
     }
 }

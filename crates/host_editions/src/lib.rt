@@ -9,7 +9,7 @@ use editions::{Converted, Edition, convert};
 use refusals::Refusal;
 
 // refusal: 0 or the refusal's number; read, written: the places after the record that was read and after the one that was
-// written, 0 where there is a refusal.
+// written, 0 where there is a refusal. Numbers, since C has no Result.
 #[repr(C)]
 #[derive(Clone, Copy)]
 pub struct Conversion {
@@ -18,26 +18,41 @@ pub struct Conversion {
     pub written: usize,
 }
 
-// As host_answers' `place_of`, no From.
-fn conversion_of(answer: Result<Converted, Refusal>) -> Conversion
-    ensures { result ≡ spec.conversion_of answer }
-{
-    match answer {
-        Ok(done) => Conversion {
-            refusal: 0,
-            read: done.read,
-            written: done.written,
-        },
-        Err(why) => Conversion {
-            refusal: why.number(),
-            read: 0,
-            written: 0,
-        },
+impl From<Result<Converted, Refusal>> for Conversion {
+    ghost from_gives = { λ answer conversion. conversion ≡ spec.conversion_of answer };
+
+    fn from(answer: Result<Converted, Refusal>) -> Conversion {
+        match answer {
+            Ok(done) => Conversion {
+                refusal: 0,
+                read: done.read,
+                written: done.written,
+            },
+            Err(why) => Conversion {
+                refusal: why.number(),
+                read: 0,
+                written: 0,
+            },
+        }
     }
 }
 
-// The edition stays a number for C.
+// By the number of the wanted edition.
 #[tactic(auto, using(crate::proofs::Editions::answer_by, crate::proofs::Editions::buffer_by))]
+fn converted(
+    bytes: &[u8],
+    at: usize,
+    edition: u32,
+    out: &mut [u8],
+    place: usize,
+) -> Result<Converted, Refusal>
+    ensures { (spec.conversion_of result ≡ spec.conversion edition bytes.now at out.old place) × (out.new ≡ spec.buffer_after edition bytes.now at out.old place) }
+{
+    let wanted = Edition::try_from(edition)?;
+    convert(bytes, at, wanted, out, place)
+}
+
+// The edition stays a number for C.
 pub fn nuthkolla_convert_record(
     bytes: &[u8],
     at: usize,
@@ -47,8 +62,5 @@ pub fn nuthkolla_convert_record(
 ) -> Conversion
     ensures { (result ≡ spec.conversion edition bytes.now at out.old place) × (out.new ≡ spec.buffer_after edition bytes.now at out.old place) }
 {
-    match Edition::from_number(edition) {
-        Some(wanted) => conversion_of(convert(bytes, at, wanted, out, place)),
-        None => conversion_of(Err(Refusal::UnknownRequest)),
-    }
+    converted(bytes, at, edition, out, place).into()
 }

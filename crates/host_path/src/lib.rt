@@ -8,13 +8,15 @@ ghost use Rattle.host_path.specs.Draw as spec;
 
 use call_numbers::{CallNumbers, waypoint_call_of};
 use guidance::plane::PlaneGuidance;
+use laws::types::FlightRegime;
 use path::draw::{Drawn as Path, draw_path};
+use records::call::Kind;
 use refusals::Refusal;
 
-// refusal: 0, or the refusal's number; drawn: how many points; stopped: 0, or the step at which the path stopped, counted from 1;
+// For C. refusal: 0, or the refusal's number; drawn: how many points; stopped: 0, or the step at which the path stopped, counted from 1;
 // reason: that step's refusal, 0 for a number that is not finite.
 #[repr(C)]
-#[derive(Clone, Copy)]
+#[derive(Clone, Copy, Default)]
 pub struct Drawn {
     pub refusal: u32,
     pub reason: u32,
@@ -27,32 +29,30 @@ fn refused(why: Refusal) -> Drawn
 {
     Drawn {
         refusal: why.number(),
-        reason: 0,
-        drawn: 0,
-        stopped: 0,
+        ..Drawn::default()
     }
 }
 
-// As host_answers' `place_of`, no From.
-fn drawn_of(answer: Result<Path, Refusal>) -> Drawn
-    ensures { result ≡ spec.drawn_of answer }
-{
-    match answer {
-        Err(why) => refused(why),
-        Ok(path) => match path.stopped {
-            None => Drawn {
-                refusal: 0,
-                reason: 0,
-                drawn: path.drawn,
-                stopped: 0,
-            },
+impl From<Result<Path, Refusal>> for Drawn {
+    ghost from_gives = { λ answer drawn. drawn ≡ spec.drawn_of answer };
+
+    fn from(answer: Result<Path, Refusal>) -> Drawn {
+        let path = match answer {
+            Err(why) => return refused(why),
+            Ok(path) => path,
+        };
+        let drawn = Drawn {
+            drawn: path.drawn,
+            ..Drawn::default()
+        };
+        match path.stopped {
+            None => drawn,
             Some(stopped) => Drawn {
-                refusal: 0,
                 reason: stopped.why.number(),
-                drawn: path.drawn,
                 stopped: stopped.step,
+                ..drawn
             },
-        },
+        }
     }
 }
 
@@ -66,15 +66,12 @@ pub fn nuthkolla_draw_path(
 ) -> Drawn
     ensures { (result ≡ spec.path_answer guidance call steps (length out.old)) × (out.new ≡ spec.path_buffer guidance call steps out.old) }
 {
-    let kind = call.kind;
-    let regime = call.regime;
     let k = waypoint_call_of(call);
-    // A waypoint's number: the names of kinds are in records, which this object does not need.
-    if kind != 3 {
+    if Kind::try_from(call.kind) != Ok(Kind::Waypoint) {
         return refused(Refusal::UnknownRequest);
     }
-    if 1 < regime {
+    if FlightRegime::try_from(call.regime).is_err() {
         return refused(Refusal::UnknownKind);
     }
-    drawn_of(draw_path(guidance, k, steps, out))
+    draw_path(guidance, k, steps, out).into()
 }

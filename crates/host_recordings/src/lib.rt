@@ -8,12 +8,12 @@ ghost use Rattle.replay.specs.Recording.{recording};
 ghost use Rattle.compaction.specs.Compaction.{compacted, bytes_after};
 ghost use Rattle.host_recordings.specs.Compaction as spec;
 
-use compaction::{BadRecording, compact};
+use compaction::{BadNumbers, BadRecording, compact};
 
-// refusal: 0 or the refusal's number; field: of refusal 1 the failing field's number; call: the number of the call whose
+// For C. refusal: 0 or the refusal's number; field: of refusal 1 the failing field's number; call: the number of the call whose
 // record was refused, 0 for the configuration; length: the new length, 0 where the recording was refused.
 #[repr(C)]
-#[derive(Clone, Copy)]
+#[derive(Clone, Copy, Default)]
 pub struct Compaction {
     pub refusal: u32,
     pub field: u32,
@@ -21,40 +21,31 @@ pub struct Compaction {
     pub length: usize,
 }
 
-fn compaction_of(answer: Result<usize, BadRecording>) -> Compaction
-    ensures { result ≡ spec.compaction_of answer }
-{
-    match answer {
-        Ok(length) => Compaction {
-            refusal: 0,
-            field: 0,
-            call: 0,
-            length,
-        },
-        Err(BadRecording::InvalidConfig(invalid)) => Compaction {
-            refusal: 1,
-            field: invalid.field,
-            call: 0,
-            length: 0,
-        },
-        Err(BadRecording::Config(why)) => Compaction {
-            refusal: why.number(),
-            field: 0,
-            call: 0,
-            length: 0,
-        },
-        Err(BadRecording::Call { number, why }) => Compaction {
-            refusal: why.number(),
-            field: 0,
-            call: number,
-            length: 0,
-        },
+impl From<Result<usize, BadRecording>> for Compaction {
+    ghost from_gives = { λ answer c. c ≡ spec.compaction_of answer };
+
+    #[tactic(auto, using(crate::proofs::Numbers::refused))]
+    fn from(answer: Result<usize, BadRecording>) -> Compaction {
+        match answer {
+            Ok(length) => Compaction {
+                length,
+                ..Compaction::default()
+            },
+            Err(why) => {
+                let numbers = BadNumbers::from(why);
+                Compaction {
+                    refusal: numbers.refusal,
+                    field: numbers.field,
+                    call: numbers.call,
+                    length: 0,
+                }
+            }
+        }
     }
 }
 
 pub fn nuthkolla_compact(bytes: &mut [u8]) -> Compaction
     ensures { (result ≡ spec.compaction_of (compacted bytes.old (recording bytes.old))) × (bytes.new ≡ bytes_after bytes.old (recording bytes.old)) }
 {
-    let answer = compact(bytes);
-    compaction_of(answer)
+    compact(bytes).into()
 }

@@ -3,13 +3,12 @@ use Rattle.std.specs.Prelude.{ℕ, cond, List, ltb, Float, Result, Ok, Err}
 use Rattle.refusals.specs.Numbers.{number}
 use Rattle.refusals.specs.declared.Refusal.{Refusal}
 use Rattle.refusals.specs.declared.Refusal.TheVariants as why
-use Rattle.call_numbers.specs.Call.{regime_of, option_of}
+use Rattle.call_numbers.specs.Call.{given, regime_of}
 use Rattle.guidance.specs.declared.plane.PlaneGuidance.{PlaneGuidance}
 use Rattle.route_records.specs.Record.{load_answer, load_buffer, write_answer, write_buffer}
 use Rattle.route_records.specs.declared.Loaded.{Loaded}
-use Rattle.routes.specs.Route.{fly}
+use Rattle.routes.specs.Route.{RouteCall, fly}
 use Rattle.routes.specs.declared.Route.{Route}
-use Rattle.routes.specs.declared.RouteCall.{RouteCall}
 use Rattle.routes.specs.declared.Flown.{Flown}
 use Rattle.rights.specs.Rights.{may}
 use Rattle.rights.specs.declared.Deed.TheVariants as deed
@@ -32,13 +31,14 @@ unfoldable pub route_call_of : RouteNumbers → RouteCall
 route_call_of k = record {
   dt = k.dt;
   regime = regime_of k.regime;
+  command = tt;
   state = record {
     position_m = k.position_m;
     velocity_mps = k.velocity_mps;
     roll_rad = k.roll_rad;
-    airspeed_mps = option_of k.has_airspeed k.airspeed_mps;
+    airspeed_mps = given k.has_airspeed k.airspeed_mps;
   };
-  cap = option_of k.has_cap k.pitch_cap_rad;
+  cap = given k.has_cap k.pitch_cap_rad;
 }
 
 abbrev pub flown_of : Flown → RouteRan

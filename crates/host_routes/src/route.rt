@@ -3,20 +3,20 @@
 ghost use Rattle.std.specs.Prelude.{◌≡◌};
 ghost use Rattle.host_routes.specs.Route as spec;
 
-use call_numbers::{option_of, regime_of};
+use call_numbers::{given, regime_of};
 use guidance::plane::PlaneGuidance;
-use host_answers::answer::{RunAnswer, bare, of_answer};
-use host_answers::place::{Place, place_of};
-use laws::types::{Vec3, VehicleState};
+use host_answers::answer::{RunAnswer, of_answer};
+use host_answers::place::Place;
+use laws::types::{FlightRegime, Vec3, VehicleState};
 use refusals::Refusal;
 use rights::{Deed, may};
 use route_records::{Loaded, load_route, write_route};
 use routes::{Route, RouteCall, fly};
 
-// What loading answers. refusal: 0 or the refusal's number; number: 1, the point that is flown to first; next: the place
+// What loading answers, for C. refusal: 0 or the refusal's number; number: 1, the point that is flown to first; next: the place
 // after the record. Refused, all but the refusal are 0.
 #[repr(C)]
-#[derive(Clone, Copy)]
+#[derive(Clone, Copy, Default)]
 pub struct RouteLoaded {
     pub refusal: u32,
     pub number: u32,
@@ -24,7 +24,7 @@ pub struct RouteLoaded {
     pub next: usize,
 }
 
-// A route call as numbers: the route's map and number, and what comes with the call. has_airspeed, has_cap: flags, 0 or not 0.
+// A route call as numbers, for C: the route's map and number, and what comes with the call. has_airspeed, has_cap: flags, 0 or not 0.
 #[repr(C)]
 #[derive(Clone, Copy)]
 pub struct RouteNumbers {
@@ -41,7 +41,7 @@ pub struct RouteNumbers {
     pub pitch_cap_rad: f32,
 }
 
-// The answer, whose place is 0, and the route's number after the call.
+// The answer, for C, whose place is 0, and the route's number after the call.
 #[repr(C)]
 #[derive(Clone, Copy)]
 pub struct RouteAnswer {
@@ -56,23 +56,22 @@ pub struct RouteRan {
     pub answer: RouteAnswer,
 }
 
-// As `place_of`, no From.
-fn loaded_of(loaded: Result<Loaded, Refusal>) -> RouteLoaded
-    ensures { result ≡ spec.loaded_of loaded }
-{
-    match loaded {
-        Ok(route) => RouteLoaded {
-            refusal: 0,
-            number: 1,
-            map: route.map,
-            next: route.next,
-        },
-        Err(why) => RouteLoaded {
-            refusal: why.number(),
-            number: 0,
-            map: 0,
-            next: 0,
-        },
+impl From<Result<Loaded, Refusal>> for RouteLoaded {
+    ghost from_gives = { λ loaded answer. answer ≡ spec.loaded_of loaded };
+
+    fn from(loaded: Result<Loaded, Refusal>) -> RouteLoaded {
+        match loaded {
+            Ok(route) => RouteLoaded {
+                number: 1,
+                map: route.map,
+                next: route.next,
+                ..RouteLoaded::default()
+            },
+            Err(why) => RouteLoaded {
+                refusal: why.number(),
+                ..RouteLoaded::default()
+            },
+        }
     }
 }
 
@@ -87,9 +86,9 @@ pub fn nuthkolla_load_route(
     ensures { (result ≡ spec.load_by caller bytes.now at numbers.old) × (numbers.new ≡ spec.load_buffer_by caller bytes.now at numbers.old) }
 {
     if may(caller, Deed::LoadRoute) {
-        return loaded_of(load_route(bytes, at, numbers));
+        return load_route(bytes, at, numbers).into();
     }
-    loaded_of(Err(Refusal::NoRight))
+    Err(Refusal::NoRight).into()
 }
 
 #[tactic(auto, unfolding(crate::specs::Route::write_by, crate::specs::Route::write_buffer_by))]
@@ -103,12 +102,13 @@ pub fn nuthkolla_write_route(
     ensures { (result ≡ spec.write_by caller out.old at map numbers.now) × (out.new ≡ spec.write_buffer_by caller out.old at map numbers.now) }
 {
     if may(caller, Deed::WriteRoute) {
-        return place_of(write_route(out, at, map, numbers));
+        return write_route(out, at, map, numbers).into();
     }
-    place_of(Err(Refusal::NoRight))
+    Err(Refusal::NoRight).into()
 }
 
-// The route and the call of a host's numbers.
+// The route and the call of a host's numbers. No From: the numbers name a route and a call. Sensors and cap are read as `waypoint_call_of`
+// reads its own: a shared function would take the six numbers one by one.
 fn route_of(k: RouteNumbers) -> Route
     ensures { result ≡ spec.route_of k }
 {
@@ -125,13 +125,14 @@ fn route_call_of(k: RouteNumbers) -> RouteCall
     RouteCall {
         dt: k.dt,
         regime: regime_of(k.regime),
+        command: (),
         state: VehicleState {
             position_m: k.position_m,
             velocity_mps: k.velocity_mps,
             roll_rad: k.roll_rad,
-            airspeed_mps: option_of(k.has_airspeed, k.airspeed_mps),
+            airspeed_mps: given(k.has_airspeed, k.airspeed_mps),
         },
-        cap: option_of(k.has_cap, k.pitch_cap_rad),
+        cap: given(k.has_cap, k.pitch_cap_rad),
     }
 }
 
@@ -142,7 +143,7 @@ fn refused(g: PlaneGuidance, k: RouteNumbers, why: Refusal) -> RouteRan
     RouteRan {
         guidance: g,
         answer: RouteAnswer {
-            answer: bare(why.number(), 0, 0),
+            answer: of_answer(Err(why), 0),
             number: k.number,
         },
     }
@@ -152,7 +153,7 @@ fn refused(g: PlaneGuidance, k: RouteNumbers, why: Refusal) -> RouteRan
 pub fn run_route(g: PlaneGuidance, k: RouteNumbers, numbers: &[f32]) -> RouteRan
     ensures { result ≡ spec.run_route g k numbers.now }
 {
-    if 1 < k.regime {
+    if FlightRegime::try_from(k.regime).is_err() {
         return refused(g, k, Refusal::UnknownKind);
     }
     let done = fly(g, route_of(k), numbers, route_call_of(k));
@@ -175,7 +176,6 @@ pub fn run_route_by(g: PlaneGuidance, caller: u32, k: RouteNumbers, numbers: &[f
     refused(g, k, Refusal::NoRight)
 }
 
-// A route call changes no configuration, neither the one in force nor the kept one, so they are not put back.
 pub fn nuthkolla_run_route(
     guidance: &mut PlaneGuidance,
     caller: u32,
@@ -186,8 +186,6 @@ pub fn nuthkolla_run_route(
 {
     let g = *guidance;
     let r = run_route_by(g, caller, call, numbers);
-    guidance.requested = r.guidance.requested;
-    guidance.altitude = r.guidance.altitude;
-    guidance.tecs = r.guidance.tecs;
+    guidance.take_over(r.guidance);
     r.answer
 }

@@ -1,17 +1,16 @@
-// What the programs desk, compact, agree and edition share: input, as many bytes as decide what they answer, and the line that
-// tells a refusal.
+// What the programs desk, compact, agree and edition share: room for their input, as many bytes as decide what they answer, why they
+// end without an answer, and the line that tells a refusal.
 #![tactic(auto)]
 
-ghost use Rattle.std.specs.Prelude.{◌≡◌, ◌<◌, length, take, IfOk, IfSome, OnOk};
-ghost use Rattle.std.specs.Io.KnownBytes.{Appends, Consumes, IsAtEnd};
-ghost use Rattle.std.specs.Counts.{IsPrefixLen};
+ghost use Rattle.std.specs.Prelude.{◌≡◌, length, OnOk};
+ghost use Rattle.std.specs.Io.KnownBytes.{Appends};
 ghost use Rattle.lines.specs.Line.{text};
 ghost use Rattle.replay.specs.Sizes.{decisive};
-ghost use Rattle.input.specs.Reading.{size_read};
 ghost use Rattle.input.specs.declared.Failure.TheVariants as failure;
 
 use lines::{LINE_ROOM, Line, put_line};
-use std::io::{Read, Write};
+use reading::ReadFailed;
+use std::io::Write;
 use std::{fmt, io};
 
 // One byte more than the largest recording that can be read to its end: 137 bytes of configuration and 4,096 calls of
@@ -19,7 +18,7 @@ use std::{fmt, io};
 // no limit of calls, and refuses input that fills the room.
 pub const INPUT_ROOM: usize = 137 + 4096 * 86 + 1;
 
-// Why a program ends without its answer, as the line that it writes on standard error says.
+// Why a program ends without its answer, as the line that it writes on standard error says. No From<io::Error>: a read's error is one too.
 #[derive(Clone, Copy, Debug, PartialEq, Eq)]
 pub enum Failure {
     Read,
@@ -35,12 +34,6 @@ impl fmt::Display for Failure {
     }
 }
 
-// A read failed, after so many bytes.
-#[derive(Clone, Copy, Debug, PartialEq, Eq)]
-pub struct ReadFailed {
-    pub size: usize,
-}
-
 impl From<ReadFailed> for Failure {
     ghost from_gives = { λ _ f. f ≡ failure.Read };
 
@@ -49,36 +42,11 @@ impl From<ReadFailed> for Failure {
     }
 }
 
+// Fixed memory, no heap.
 pub fn input_room() -> [u8; INPUT_ROOM]
     ensures { decisive ≡ length result }
 {
     [0u8; INPUT_ROOM]
-}
-
-// Reads standard input.
-pub fn read_input<S: io::Input>(rt: &S, buffer: &mut [u8]) -> Result<usize, ReadFailed>
-    ensures { IsPrefixLen (size_read result) buffer.new }
-{
-    read_from(&mut rt.reader(), buffer)
-}
-
-// Reads until the input ends, the buffer is full or a read fails, and answers how many bytes were read.
-pub fn read_from<R: Read>(reader: &mut R, buffer: &mut [u8]) -> Result<usize, ReadFailed>
-    ensures size { IsPrefixLen (size_read result) buffer.new }
-    ensures bytes { Consumes (R.remaining reader.old) (R.remaining reader.new) (take (size_read result) buffer.new) }
-    ensures end { IfOk result (λ size. size < length buffer.new → IsAtEnd (R.remaining reader.new)) }
-    ensures front { IfOk result (λ size. IfSome (R.remaining reader.old)
-        (λ input. take size buffer.new ≡ take (length buffer.new) input)) }
-{
-    let mut size = 0;
-    while size < buffer.len() {
-        match reader.read(&mut buffer[size..]) {
-            Ok(0) => return Ok(size),
-            Ok(more) => size += more,
-            Err(_) => return Err(ReadFailed { size }),
-        }
-    }
-    Ok(size)
 }
 
 // A line on a stream, as on standard error.

@@ -1,10 +1,13 @@
 -- What is kept of lib.rs. Definitions only.
-use Rattle.std.specs.Prelude.{cond, Float, Option, Some, None}
+use Rattle.std.specs.Prelude.{ℕ, cond, eqb, Float, Option, Some, None, Result, Ok, Err}
 use Rattle.std.specs.Float.Ieee as Ieee
 use Rattle.arithmetic.specs.Constants.{f32, n0}
 use Rattle.arithmetic.specs.declared.vector.Vec2.{Vec2}
 use Rattle.laws.specs.declared.types.Vec3.{Vec3}
 use Rattle.laws.specs.declared.types.VehicleState.{VehicleState}
+use Rattle.laws.specs.declared.types.FlightRegime.{FlightRegime}
+use Rattle.laws.specs.declared.types.FlightRegime.TheVariants.{Copter, Plane}
+use Rattle.laws.specs.declared.types.UnknownRegime.{UnknownRegime}
 
 -- standard gravity
 abbrev pub gravity : Float
@@ -22,3 +25,7 @@ at_least_zero (Some a) = cond (Ieee.le n0 a) (Some a) None
 -- the airspeed where it is present and >= 0
 unfoldable pub valid_airspeed : VehicleState → Option Float
 valid_airspeed s = at_least_zero s.airspeed_mps
+
+-- the regime of a number: 0 copter, 1 plane
+abbrev pub regime_from : ℕ → Result FlightRegime UnknownRegime
+regime_from n = cond (eqb n 0) (Ok Copter) (cond (eqb n 1) (Ok Plane) (Err record {}))

@@ -3,7 +3,6 @@ ghost use Rattle.std.specs.Prelude.{◌≡◌};
 ghost use Rattle.laws.specs.Config as spec;
 
 use crate::types::Vec3;
-use arithmetic::order::is_finite;
 use arithmetic::trigonometry::{FRAC_PI_2, PI};
 
 // Fields 15 to 30: total energy control.
@@ -53,7 +52,8 @@ pub struct PlaneGuidanceConfig {
 // One degree in radians.
 const DEG: f32 = PI / 180.0;
 
-// The number of the first field that fails, 1 to 35. The Rust's InvalidConfig has the field's name.
+// The number of the first field that fails, 1 to 35. The Rust's InvalidConfig has the field's name. A number and no enum: records and
+// hosts have the number, and 35 names would say no more.
 #[derive(Clone, Copy, PartialEq, Eq)]
 pub struct InvalidConfig {
     pub field: u32,
@@ -72,13 +72,13 @@ fn check(field: u32, passes: bool) -> Result<(), InvalidConfig>
 fn check_limit(field: u32, value: f32) -> Result<(), InvalidConfig>
     ensures { result ≡ spec.checked field (spec.check_limit value) }
 {
-    check(field, (value >= 0.0) & is_finite(value))
+    check(field, (value >= 0.0) & value.is_finite())
 }
 
 fn check_positive(field: u32, value: f32) -> Result<(), InvalidConfig>
     ensures { result ≡ spec.checked field (spec.check_positive value) }
 {
-    check(field, (value > 0.0) & is_finite(value))
+    check(field, (value > 0.0) & value.is_finite())
 }
 
 fn check_within(field: u32, low: f32, value: f32, high: f32) -> Result<(), InvalidConfig>
@@ -167,53 +167,57 @@ pub fn validate(c: PlaneGuidanceConfig) -> Result<(), InvalidConfig>
     check_last(c)
 }
 
-#[tactic(auto, unfolding(crate::specs::Config::tecs_default))]
-pub fn tecs_default() -> TecsConfig
-    ensures { result ≡ spec.tecs_default }
-{
-    TecsConfig {
-        time_constant_s: 5.0,
-        max_climb_mps: 5.0,
-        min_sink_mps: 2.0,
-        max_sink_mps: 5.0,
-        thrust_damping: 0.5,
-        integrator_gain: 0.3,
-        pitch_damping: 0.3,
-        pitch_integrator_gain: 0.2,
-        speed_weight: 1.0,
-        roll_compensation: 10.0,
-        min_airspeed_mps: 10.0,
-        max_airspeed_mps: 25.0,
-        underspeed_share: 0.9,
-        height_demand_time_constant_s: 3.0,
-        airspeed_rate_time_constant_s: 0.5,
-        kinetic_rate_high_pass_s: 1.0,
+impl Default for TecsConfig {
+    ghost is_default = { λ t. t ≡ spec.tecs_default };
+
+    #[tactic(auto, unfolding(crate::specs::Config::tecs_default))]
+    fn default() -> TecsConfig {
+        TecsConfig {
+            time_constant_s: 5.0,
+            max_climb_mps: 5.0,
+            min_sink_mps: 2.0,
+            max_sink_mps: 5.0,
+            thrust_damping: 0.5,
+            integrator_gain: 0.3,
+            pitch_damping: 0.3,
+            pitch_integrator_gain: 0.2,
+            speed_weight: 1.0,
+            roll_compensation: 10.0,
+            min_airspeed_mps: 10.0,
+            max_airspeed_mps: 25.0,
+            underspeed_share: 0.9,
+            height_demand_time_constant_s: 3.0,
+            airspeed_rate_time_constant_s: 0.5,
+            kinetic_rate_high_pass_s: 1.0,
+        }
     }
 }
 
-pub fn default() -> PlaneGuidanceConfig
-    ensures { result ≡ spec.default }
-{
-    PlaneGuidanceConfig {
-        max_bank_rad: 45.0 * DEG,
-        max_pitch_up_rad: 20.0 * DEG,
-        max_pitch_down_rad: 25.0 * DEG,
-        max_rate_radps: Vec3 {
-            x: 180.0 * DEG,
-            y: 180.0 * DEG,
-            z: 0.0,
-        },
-        trim_pitch_rad: 0.0,
-        cruise_thrust: 0.5,
-        l1_period_s: 12.0,
-        l1_damping: 0.75,
-        loiter_radius_m: 40.0,
-        altitude_p: 0.05,
-        altitude_i: 0.01,
-        altitude_max_integral: 20.0,
-        tecs: tecs_default(),
-        min_thrust: 0.2,
-        max_thrust: 1.0,
-        climb_thrust_per_rad: 0.5,
+impl Default for PlaneGuidanceConfig {
+    ghost is_default = { λ c. c ≡ spec.default };
+
+    fn default() -> PlaneGuidanceConfig {
+        PlaneGuidanceConfig {
+            max_bank_rad: 45.0 * DEG,
+            max_pitch_up_rad: 20.0 * DEG,
+            max_pitch_down_rad: 25.0 * DEG,
+            max_rate_radps: Vec3 {
+                x: 180.0 * DEG,
+                y: 180.0 * DEG,
+                z: 0.0,
+            },
+            trim_pitch_rad: 0.0,
+            cruise_thrust: 0.5,
+            l1_period_s: 12.0,
+            l1_damping: 0.75,
+            loiter_radius_m: 40.0,
+            altitude_p: 0.05,
+            altitude_i: 0.01,
+            altitude_max_integral: 20.0,
+            tecs: TecsConfig::default(),
+            min_thrust: 0.2,
+            max_thrust: 1.0,
+            climb_thrust_per_rad: 0.5,
+        }
     }
 }

@@ -2,7 +2,7 @@
 ghost use Rattle.std.specs.Prelude.{◌≡◌};
 ghost use Rattle.laws.specs.Math as spec;
 
-use arithmetic::order::{clamp, clamp_ordered, is_finite, least};
+use arithmetic::order::{clamp, clamp_ordered, least};
 use arithmetic::vector::Vec2;
 
 #[tactic(auto, unfolding(crate::specs::Math::limit_or_zero))]
@@ -58,5 +58,5 @@ pub fn lagged(value: f32, target: f32, dt: f32, time_constant_s: f32) -> f32
 pub fn all_finite(v: Vec2) -> bool
     ensures { result ≡ spec.all_finite v }
 {
-    is_finite(v.x) & is_finite(v.y)
+    v.x.is_finite() & v.y.is_finite()
 }

@@ -6,7 +6,7 @@ ghost use Rattle.laws.specs.Code.Steering as steering;
 
 use crate::math::{all_finite, clamp_symmetric};
 use crate::types::GRAVITY;
-use arithmetic::order::{choose, clamp_ordered, greatest, is_finite};
+use arithmetic::order::{choose, clamp_ordered, greatest};
 use arithmetic::trigonometry::{FRAC_PI_2, FRAC_PI_4, PI, arcsine, arctangent, arctangent2, sine};
 use arithmetic::vector::{Vec2, cross, difference, dot, norm, normalise};
 
@@ -15,9 +15,9 @@ const MIN_GROUND_SPEED_MPS: f32 = 1.0;
 
 const MAX_CAPTURE_RAD: f32 = FRAC_PI_4;
 
-// What a lateral law answers: the acceleration in m/s² and the distance off its line in m, both right positive; idle where
-// it gave up for want of a leg or a course. No Option, since both numbers are flown when idle too: each caller would spell their zeros.
-#[derive(Clone, Copy)]
+// What a lateral law answers: the acceleration in m/s² and the distance off its line in m, both right positive; idle where it gave
+// up for want of a leg or a course. No Option: a caller flies and tells both zeros when idle too, and would only put them in for None.
+#[derive(Clone, Copy, Default)]
 pub struct Lateral {
     pub accel_mps2: f32,
     pub cross_track_m: f32,
@@ -53,7 +53,8 @@ struct Tuning {
     damping: f32,
 }
 
-// What is flown to: the leg through the point, or without a leg the loiter around it with this radius.
+// What is flown to: the leg through the point, or without a leg the loiter around it with this radius. Not an enum of the two: the guidance
+// hands over both, and the leg says which.
 #[derive(Clone, Copy)]
 struct Waypoint {
     leg: Option<Vec2>,
@@ -63,7 +64,7 @@ struct Waypoint {
 
 // A PI loop with a clamped output; it holds only its integral.
 #[repr(C)]
-#[derive(Clone, Copy)]
+#[derive(Clone, Copy, Default)]
 pub struct PiLoop {
     pub integral: f32,
 }
@@ -126,9 +127,8 @@ impl Lateral {
         ensures { result ≡ spec.level idle }
     {
         Lateral {
-            accel_mps2: 0.0,
-            cross_track_m: 0.0,
             idle,
+            ..Lateral::default()
         }
     }
 }
@@ -147,7 +147,7 @@ impl Motion {
         let eta_rad = clamp_symmetric(-capture_rad - course_rad, FRAC_PI_2);
         let accel = gains.gain * speed_mps * speed_mps / gains.distance_m * sine(eta_rad);
         Lateral {
-            accel_mps2: choose(is_finite(accel), accel, 0.0),
+            accel_mps2: choose(accel.is_finite(), accel, 0.0),
             cross_track_m,
             idle: false,
         }
@@ -175,8 +175,7 @@ impl Motion {
         match waypoint.line(self.position_m) {
             None => Lateral {
                 accel_mps2: waypoint.centripetal(self.speed_mps),
-                cross_track_m: 0.0,
-                idle: false,
+                ..Lateral::default()
             },
             Some(line) => waypoint.with_centripetal(self.speed_mps, self.track(line, tuning)),
         }
@@ -249,8 +248,8 @@ impl Waypoint {
     }
 }
 
-// Track along a leg, and without one a loiter around the point. Both laws in one, so that the speed is measured once. This and the
-// functions below have the Rust's parameters, which the guidance and the rows of the test cases hand over one by one.
+// Track along a leg, and without one a loiter around the point. Both laws in one, so that the speed is measured once. The public
+// functions from here on have the Rust's own parameters, which is a rule of the project; this one has those of both its laws.
 #[tactic(auto, using(crate::proofs::Steering::gives_up, crate::proofs::Steering::steers))]
 pub fn lateral_accel_mps2(
     leg: Option<Vec2>,
@@ -338,7 +337,7 @@ pub fn bank_for_accel_rad(accel_mps2: f32) -> f32
     ensures { result ≡ spec.bank_for_accel accel_mps2 }
 {
     let bank = arctangent(accel_mps2 / GRAVITY);
-    choose(is_finite(bank), bank, 0.0)
+    choose(bank.is_finite(), bank, 0.0)
 }
 
 #[tactic(auto, unfolding(crate::specs::Navigation::pi_pinned))]
@@ -348,7 +347,7 @@ fn pi_pinned(unclamped: f32, error: f32, low: f32, high: f32) -> bool
     ((unclamped >= high) & (error > 0.0)) | ((unclamped <= low) & (error < 0.0))
 }
 
-// The Rust's PiLoop::step.
+// The Rust's PiLoop::step, with its parameters.
 #[tactic(auto, using(crate::proofs::Ordered::greatest_ordered), unfolding(crate::specs::Navigation::pi_step, crate::specs::Navigation::pi_finite))]
 pub fn pi_step(
     pi: PiLoop,
@@ -363,7 +362,7 @@ pub fn pi_step(
 ) -> PiResult
     ensures { result ≡ spec.pi_step pi dt error p i max_integral low high fallback }
 {
-    if !is_finite(error) {
+    if !error.is_finite() {
         return PiResult {
             output: fallback,
             pi,

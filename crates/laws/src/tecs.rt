@@ -1,12 +1,13 @@
-// Total energy control: thrust sets the rate of the total energy, pitch the balance between height and airspeed. The functions are the
-// Rust's, with its parameters: a struct of configuration and inputs would be one more name for what each call hands on as it is.
+// Total energy control: thrust sets the rate of the total energy, pitch the balance between height and airspeed. The public functions
+// take what the Rust's methods of these names read: self's fields, the configuration and the limits apart, dt, targets and sensors as
+// `Inputs`, a rule of the project; inside, what travels together is one `Sample` or one `Balance`.
 ghost use Rattle.std.specs.Prelude.{◌≡◌};
 ghost use Rattle.laws.specs.Tecs as spec;
 
 use crate::config::TecsConfig;
 use crate::math::{clamp_symmetric, lagged};
 use crate::types::GRAVITY;
-use arithmetic::order::{choose, clamp, clamp_ordered, greatest, is_finite, least};
+use arithmetic::order::{choose, clamp, clamp_ordered, greatest, least};
 use arithmetic::trigonometry::cosine;
 
 // Below this airspeed the pitch terms stop growing.
@@ -32,12 +33,12 @@ pub struct Demand {
 #[repr(C)]
 #[derive(Clone, Copy, Default)]
 pub struct Tecs {
-    // A flag, 0 or not 0: the C interface gives words, and each call hands back the one that it was given.
+    // A flag, 0 or not 0, and no bool: a host in C holds it, and may hold any word.
     pub seeded: u32,
     pub demand: Demand,
     pub pitch_integral_rad: f32,
     pub thrust_integral: f32,
-    // A flag, 0 or not 0, and no bool, for the same reason.
+    // A flag, as `seeded`: a call that neither sets nor clears it hands back the word that it was given.
     pub underspeed: u32,
     pub filtered_airspeed_mps: f32,
     pub steady_accel_mps2: f32,
@@ -64,6 +65,14 @@ pub struct Inputs {
     pub height_m: f32,
     pub climb_mps: f32,
     pub roll_rad: f32,
+}
+
+// What the energies of one step are formed from; the speed is the airspeed that its rates divide by.
+#[derive(Clone, Copy)]
+struct Sample {
+    config: TecsConfig,
+    inputs: Inputs,
+    speed_mps: f32,
 }
 
 // Energy rates and errors of one step, per unit mass: m²/s² and m²/s³.
@@ -93,6 +102,15 @@ pub struct EnergiesResult {
     pub filter: Filter,
 }
 
+// What the thrust and the pitch of one step are worked out from.
+#[derive(Clone, Copy)]
+struct Balance {
+    config: TecsConfig,
+    limits: Limits,
+    energies: Energies,
+    dt: f32,
+}
+
 #[derive(Clone, Copy)]
 pub struct ThrustResult {
     pub thrust: f32,
@@ -113,14 +131,14 @@ pub struct TecsResult {
     pub thrust: f32,
 }
 
-// A stored flag stands where it is not 0.
+// A stored flag stands where it is not 0. The laws take it as it is stored.
 pub fn flag(n: u32) -> bool
     ensures { result ≡ spec.flag n }
 {
     n != 0
 }
 
-// The Rust's Tecs::default, which its reset stores.
+// The Rust's reset, a rule of the project: it stores Tecs::default.
 #[tactic(auto, unfolding(crate::specs::Tecs::reset))]
 pub fn reset() -> Tecs
     ensures { result ≡ spec.reset }
@@ -166,155 +184,169 @@ fn clamp_airspeed(config: TecsConfig, airspeed_mps: f32) -> f32
     )
 }
 
-#[tactic(auto, unfolding(crate::specs::Tecs::seed_demand))]
-fn seed_demand(config: TecsConfig, inputs: Inputs) -> Demand
-    ensures { result ≡ spec.seed_demand config inputs }
-{
-    let entry_climb_mps = clamp(inputs.climb_mps, -config.max_sink_mps, config.max_climb_mps);
-    Demand {
-        slewed_height_m: inputs.height_m + entry_climb_mps * config.height_demand_time_constant_s,
-        height_m: inputs.height_m,
-        airspeed_mps: clamp_airspeed(config, inputs.airspeed_mps),
+impl Sample {
+    #[tactic(auto, unfolding(crate::specs::Tecs::seed_demand))]
+    fn seed_demand(self) -> Demand
+        ensures { result ≡ spec.seed_demand self.config self.inputs }
+    {
+        let (config, inputs) = (self.config, self.inputs);
+        let entry_climb_mps = clamp(inputs.climb_mps, -config.max_sink_mps, config.max_climb_mps);
+        Demand {
+            slewed_height_m: inputs.height_m
+                + entry_climb_mps * config.height_demand_time_constant_s,
+            height_m: inputs.height_m,
+            airspeed_mps: clamp_airspeed(config, inputs.airspeed_mps),
+        }
     }
-}
 
-#[tactic(auto, unfolding(crate::specs::Tecs::previous_demand))]
-fn previous_demand(s: Tecs, config: TecsConfig, inputs: Inputs) -> Demand
-    ensures { result ≡ spec.previous_demand s config inputs }
-{
-    if flag(s.seeded) {
-        s.demand
-    } else {
-        seed_demand(config, inputs)
+    #[tactic(auto, unfolding(crate::specs::Tecs::previous_demand))]
+    fn previous_demand(self, s: Tecs) -> Demand
+        ensures { result ≡ spec.previous_demand s self.config self.inputs }
+    {
+        if flag(s.seeded) {
+            s.demand
+        } else {
+            self.seed_demand()
+        }
     }
-}
 
-#[tactic(auto, unfolding(crate::specs::Tecs::slewed_height))]
-fn slewed_height(previous_m: f32, config: TecsConfig, inputs: Inputs) -> f32
-    ensures { result ≡ spec.slewed_height previous_m config inputs }
-{
-    let window_s = greatest(config.time_constant_s, config.height_demand_time_constant_s);
-    let rise_m = clamp(
-        inputs.altitude_m - previous_m,
-        -config.max_sink_mps * inputs.dt,
-        config.max_climb_mps * inputs.dt,
-    );
-    clamp(
-        previous_m + rise_m,
-        inputs.height_m - window_s * config.max_sink_mps,
-        inputs.height_m + window_s * config.max_climb_mps,
-    )
-}
-
-#[tactic(auto, unfolding(crate::specs::Tecs::slewed_airspeed))]
-fn slewed_airspeed(previous_mps: f32, config: TecsConfig, inputs: Inputs, speed_mps: f32) -> f32
-    ensures { result ≡ spec.slewed_airspeed previous_mps config inputs speed_mps }
-{
-    let max_accel_mps2 = 0.5 * max_energy_rate(config) / speed_mps;
-    let target_mps = clamp_airspeed(config, inputs.airspeed_target_mps);
-    previous_mps
-        + clamp(
-            target_mps - previous_mps,
-            -max_accel_mps2 * inputs.dt,
-            max_accel_mps2 * inputs.dt,
+    #[tactic(auto, unfolding(crate::specs::Tecs::slewed_height))]
+    fn slewed_height(self, previous_m: f32) -> f32
+        ensures { result ≡ spec.slewed_height previous_m self.config self.inputs }
+    {
+        let (config, inputs) = (self.config, self.inputs);
+        let window_s = greatest(config.time_constant_s, config.height_demand_time_constant_s);
+        let rise_m = clamp(
+            inputs.altitude_m - previous_m,
+            -config.max_sink_mps * inputs.dt,
+            config.max_climb_mps * inputs.dt,
+        );
+        clamp(
+            previous_m + rise_m,
+            inputs.height_m - window_s * config.max_sink_mps,
+            inputs.height_m + window_s * config.max_climb_mps,
         )
-}
-
-#[tactic(auto, unfolding(crate::specs::Tecs::next_demand))]
-fn next_demand(d: Demand, config: TecsConfig, inputs: Inputs, speed_mps: f32) -> Demand
-    ensures { result ≡ spec.next_demand d config inputs speed_mps }
-{
-    let slewed_m = slewed_height(d.slewed_height_m, config, inputs);
-    Demand {
-        slewed_height_m: slewed_m,
-        height_m: lagged(
-            d.height_m,
-            slewed_m,
-            inputs.dt,
-            config.height_demand_time_constant_s,
-        ),
-        airspeed_mps: slewed_airspeed(d.airspeed_mps, config, inputs, speed_mps),
     }
-}
 
-fn accel_of(filtered_mps: f32, config: TecsConfig, inputs: Inputs) -> f32
-    ensures { result ≡ spec.accel_of filtered_mps config inputs }
-{
-    (inputs.airspeed_mps - filtered_mps) / config.airspeed_rate_time_constant_s
-}
+    #[tactic(auto, unfolding(crate::specs::Tecs::slewed_airspeed))]
+    fn slewed_airspeed(self, previous_mps: f32) -> f32
+        ensures { result ≡ spec.slewed_airspeed previous_mps self.config self.inputs self.speed_mps }
+    {
+        let dt = self.inputs.dt;
+        let max_accel_mps2 = 0.5 * max_energy_rate(self.config) / self.speed_mps;
+        let target_mps = clamp_airspeed(self.config, self.inputs.airspeed_target_mps);
+        previous_mps
+            + clamp(
+                target_mps - previous_mps,
+                -max_accel_mps2 * dt,
+                max_accel_mps2 * dt,
+            )
+    }
 
-#[tactic(auto, unfolding(crate::specs::Tecs::previous_filter, crate::specs::Tecs::seed_filter))]
-fn previous_filter(s: Tecs, config: TecsConfig, inputs: Inputs) -> Filter
-    ensures { result ≡ spec.previous_filter s config inputs }
-{
-    if flag(s.seeded) {
-        Filter {
-            filtered_airspeed_mps: s.filtered_airspeed_mps,
-            steady_accel_mps2: s.steady_accel_mps2,
-        }
-    } else {
-        Filter {
-            filtered_airspeed_mps: inputs.airspeed_mps,
-            steady_accel_mps2: accel_of(inputs.airspeed_mps, config, inputs),
+    #[tactic(auto, unfolding(crate::specs::Tecs::next_demand))]
+    fn next_demand(self, d: Demand) -> Demand
+        ensures { result ≡ spec.next_demand d self.config self.inputs self.speed_mps }
+    {
+        let slewed_m = self.slewed_height(d.slewed_height_m);
+        Demand {
+            slewed_height_m: slewed_m,
+            height_m: lagged(
+                d.height_m,
+                slewed_m,
+                self.inputs.dt,
+                self.config.height_demand_time_constant_s,
+            ),
+            airspeed_mps: self.slewed_airspeed(d.airspeed_mps),
         }
     }
-}
 
-#[tactic(auto, unfolding(crate::specs::Tecs::next_filter))]
-fn next_filter(filter: Filter, config: TecsConfig, inputs: Inputs) -> Filter
-    ensures { result ≡ spec.next_filter filter config inputs }
-{
-    let accel_mps2 = accel_of(filter.filtered_airspeed_mps, config, inputs);
-    Filter {
-        filtered_airspeed_mps: lagged(
-            filter.filtered_airspeed_mps,
-            inputs.airspeed_mps,
-            inputs.dt,
-            config.airspeed_rate_time_constant_s,
-        ),
-        steady_accel_mps2: lagged(
-            filter.steady_accel_mps2,
-            accel_mps2,
-            inputs.dt,
-            config.kinetic_rate_high_pass_s,
-        ),
+    fn accel_of(self, filtered_mps: f32) -> f32
+        ensures { result ≡ spec.accel_of filtered_mps self.config self.inputs }
+    {
+        (self.inputs.airspeed_mps - filtered_mps) / self.config.airspeed_rate_time_constant_s
     }
-}
 
-#[tactic(auto, unfolding(crate::specs::Tecs::energies_of))]
-fn energies_of(
-    previous: Demand,
-    next: Demand,
-    filter: Filter,
-    config: TecsConfig,
-    inputs: Inputs,
-    speed_mps: f32,
-) -> Energies
-    ensures { result ≡ spec.energies_of previous next filter config inputs speed_mps }
-{
-    let height_rate_mps = (next.height_m - previous.height_m) / inputs.dt;
-    let changing_accel_mps2 = accel_of(filter.filtered_airspeed_mps, config, inputs)
-        - filter.steady_accel_mps2;
-    let potential_error = GRAVITY * (next.height_m - inputs.height_m);
-    let kinetic_error = 0.5
-        * (next.airspeed_mps * next.airspeed_mps - inputs.airspeed_mps * inputs.airspeed_mps);
-    Energies {
-        potential_error,
-        kinetic_error,
-        potential_rate_demand: clamp(
-            GRAVITY * height_rate_mps + potential_error / config.time_constant_s,
-            least_energy_rate(config),
-            max_energy_rate(config),
-        ),
-        kinetic_rate_demand: kinetic_error / config.time_constant_s,
-        potential_rate: GRAVITY * inputs.climb_mps,
-        kinetic_rate: speed_mps * changing_accel_mps2,
-        speed_mps,
+    #[tactic(auto, unfolding(crate::specs::Tecs::previous_filter, crate::specs::Tecs::seed_filter))]
+    fn previous_filter(self, s: Tecs) -> Filter
+        ensures { result ≡ spec.previous_filter s self.config self.inputs }
+    {
+        if flag(s.seeded) {
+            Filter {
+                filtered_airspeed_mps: s.filtered_airspeed_mps,
+                steady_accel_mps2: s.steady_accel_mps2,
+            }
+        } else {
+            let airspeed_mps = self.inputs.airspeed_mps;
+            Filter {
+                filtered_airspeed_mps: airspeed_mps,
+                steady_accel_mps2: self.accel_of(airspeed_mps),
+            }
+        }
+    }
+
+    #[tactic(auto, unfolding(crate::specs::Tecs::next_filter))]
+    fn next_filter(self, filter: Filter) -> Filter
+        ensures { result ≡ spec.next_filter filter self.config self.inputs }
+    {
+        let (config, inputs) = (self.config, self.inputs);
+        Filter {
+            filtered_airspeed_mps: lagged(
+                filter.filtered_airspeed_mps,
+                inputs.airspeed_mps,
+                inputs.dt,
+                config.airspeed_rate_time_constant_s,
+            ),
+            steady_accel_mps2: lagged(
+                filter.steady_accel_mps2,
+                self.accel_of(filter.filtered_airspeed_mps),
+                inputs.dt,
+                config.kinetic_rate_high_pass_s,
+            ),
+        }
+    }
+
+    #[tactic(auto, unfolding(crate::specs::Tecs::energies_of))]
+    fn energies_of(self, previous: Demand, next: Demand, filter: Filter) -> Energies
+        ensures { result ≡ spec.energies_of previous next filter self.config self.inputs self.speed_mps }
+    {
+        let (config, inputs, speed_mps) = (self.config, self.inputs, self.speed_mps);
+        let height_rate_mps = (next.height_m - previous.height_m) / inputs.dt;
+        let changing_accel_mps2 = self.accel_of(filter.filtered_airspeed_mps)
+            - filter.steady_accel_mps2;
+        let potential_error = GRAVITY * (next.height_m - inputs.height_m);
+        let kinetic_error = 0.5
+            * (next.airspeed_mps * next.airspeed_mps - inputs.airspeed_mps * inputs.airspeed_mps);
+        Energies {
+            potential_error,
+            kinetic_error,
+            potential_rate_demand: clamp(
+                GRAVITY * height_rate_mps + potential_error / config.time_constant_s,
+                least_energy_rate(config),
+                max_energy_rate(config),
+            ),
+            kinetic_rate_demand: kinetic_error / config.time_constant_s,
+            potential_rate: GRAVITY * inputs.climb_mps,
+            kinetic_rate: speed_mps * changing_accel_mps2,
+            speed_mps,
+        }
+    }
+
+    #[tactic(auto, unfolding(crate::specs::Tecs::energies))]
+    fn energies(self, s: Tecs) -> EnergiesResult
+        ensures { result ≡ spec.energies s self.config self.inputs self.speed_mps }
+    {
+        let previous = self.previous_demand(s);
+        let demand = self.next_demand(previous);
+        let before = self.previous_filter(s);
+        EnergiesResult {
+            energies: self.energies_of(previous, demand, before),
+            demand,
+            filter: self.next_filter(before),
+        }
     }
 }
 
 // The Rust's Tecs::energies, whose name differs from its struct's only in the case of a letter.
-#[tactic(auto, unfolding(crate::specs::Tecs::energies))]
 pub fn update_energies(
     s: Tecs,
     config: TecsConfig,
@@ -323,81 +355,133 @@ pub fn update_energies(
 ) -> EnergiesResult
     ensures { result ≡ spec.energies s config inputs speed_mps }
 {
-    let previous = previous_demand(s, config, inputs);
-    let demand = next_demand(previous, config, inputs, speed_mps);
-    let before = previous_filter(s, config, inputs);
-    let energies = energies_of(previous, demand, before, config, inputs, speed_mps);
-    let filter = next_filter(before, config, inputs);
-    EnergiesResult {
-        energies,
-        demand,
-        filter,
+    let sample = Sample {
+        config,
+        inputs,
+        speed_mps,
+    };
+    sample.energies(s)
+}
+
+impl Balance {
+    #[tactic(auto, unfolding(crate::specs::Tecs::turn_rate))]
+    fn turn_rate(self, roll_rad: f32) -> f32
+        ensures { result ≡ spec.turn_rate self.config roll_rad }
+    {
+        let cos_bank = cosine(roll_rad);
+        let cos2 = greatest(cos_bank * cos_bank, MIN_COS2_BANK);
+        choose(
+            cos2.is_finite(),
+            self.config.roll_compensation * (1.0 / cos2 - 1.0),
+            0.0,
+        )
+    }
+
+    #[tactic(auto, unfolding(crate::specs::Tecs::feedforward))]
+    fn feedforward(self, rate: f32) -> f32
+        ensures { result ≡ spec.feedforward rate self.config self.limits }
+    {
+        let (config, limits) = (self.config, self.limits);
+        let cruise = clamp(limits.cruise_thrust, limits.min_thrust, limits.max_thrust);
+        if rate >= 0.0 {
+            cruise + rate / max_energy_rate(config) * (limits.max_thrust - cruise)
+        } else {
+            cruise + rate / -(-GRAVITY * config.min_sink_mps) * (cruise - limits.min_thrust)
+        }
+    }
+
+    #[tactic(auto, unfolding(crate::specs::Tecs::balanced_thrust))]
+    fn balanced_thrust(self, integral: f32, roll_rad: f32) -> ThrustResult
+        ensures { result ≡ spec.balanced_thrust integral self.config self.limits self.energies self.dt roll_rad }
+    {
+        let (config, e) = (self.config, self.energies);
+        let low = self.limits.min_thrust;
+        let high = self.limits.max_thrust;
+        let max_rate = max_energy_rate(config);
+        let min_rate = -GRAVITY * config.min_sink_mps;
+        let kinetic_rate_demand = clamp_symmetric(e.kinetic_rate_demand, 0.5 * max_rate);
+        let rate_demand = clamp(
+            e.potential_rate_demand + kinetic_rate_demand,
+            min_rate,
+            max_rate,
+        );
+        let rate = e.potential_rate + e.kinetic_rate;
+        let forward = self.feedforward(rate_demand + self.turn_rate(roll_rad));
+        let gain = (high - low) / (max_rate - min_rate);
+        let proportional = forward + gain * config.thrust_damping * (rate_demand - rate);
+        let total_error = e.potential_error + e.kinetic_error;
+        let sum = clamp(
+            integral
+                + config.integrator_gain * gain * total_error / config.time_constant_s * self.dt,
+            low - proportional - THRUST_INTEGRAL_MARGIN,
+            high - proportional + THRUST_INTEGRAL_MARGIN,
+        );
+        ThrustResult {
+            thrust: clamp(proportional + sum, low, high),
+            integral: sum,
+        }
+    }
+
+    #[tactic(auto, unfolding(crate::specs::Tecs::thrust))]
+    fn thrust(self, underspeed: u32, integral: f32, roll_rad: f32) -> ThrustResult
+        ensures { result ≡ spec.thrust underspeed integral self.config self.limits self.energies self.dt roll_rad }
+    {
+        if flag(underspeed) {
+            return ThrustResult {
+                thrust: self.limits.max_thrust,
+                integral,
+            };
+        }
+        self.balanced_thrust(integral, roll_rad)
+    }
+
+    #[tactic(auto, unfolding(crate::specs::Tecs::pitch_integral))]
+    fn pitch_integral(self, pinned: bool, integral: f32, step: f32) -> f32
+        ensures { result ≡ spec.pitch_integral pinned integral step self.dt self.config }
+    {
+        if pinned {
+            lagged(integral, 0.0, self.dt, self.config.time_constant_s)
+        } else {
+            integral + step
+        }
+    }
+
+    #[tactic(auto, unfolding(crate::specs::Tecs::pitch))]
+    fn pitch(self, underspeed: u32, integral: f32) -> PitchResult
+        ensures { result ≡ spec.pitch underspeed integral self.config self.limits self.energies self.dt }
+    {
+        let (config, e) = (self.config, self.energies);
+        let high = self.limits.pitch_up_rad;
+        let low = -self.limits.pitch_down_rad;
+        let speed_weight = choose(flag(underspeed), 2.0, config.speed_weight);
+        let kinetic_weight = least(speed_weight, 1.0);
+        let potential_weight = least(2.0 - speed_weight, 1.0);
+        let rate_demand = clamp(
+            potential_weight * e.potential_rate_demand - kinetic_weight * e.kinetic_rate_demand,
+            least_energy_rate(config),
+            max_energy_rate(config),
+        );
+        let rate = potential_weight * e.potential_rate - kinetic_weight * e.kinetic_rate;
+        let rate_error = rate_demand - rate;
+        let per_rad = e.speed_mps * GRAVITY;
+        let proportional_rad = self.limits.trim_pitch_rad
+            + (rate_demand + config.pitch_damping * rate_error) / per_rad;
+        let step_rad = config.pitch_integrator_gain * rate_error / per_rad * self.dt;
+        let unclamped = proportional_rad + integral + step_rad;
+        let pinned = ((unclamped > high) & (step_rad > 0.0))
+            | ((unclamped < low) & (step_rad < 0.0));
+        let next = clamp(
+            self.pitch_integral(pinned, integral, step_rad),
+            low - high,
+            high - low,
+        );
+        PitchResult {
+            pitch_rad: clamp(proportional_rad + next, low, high),
+            integral_rad: next,
+        }
     }
 }
 
-#[tactic(auto, unfolding(crate::specs::Tecs::turn_rate))]
-fn turn_rate(config: TecsConfig, roll_rad: f32) -> f32
-    ensures { result ≡ spec.turn_rate config roll_rad }
-{
-    let cos_bank = cosine(roll_rad);
-    let cos2 = greatest(cos_bank * cos_bank, MIN_COS2_BANK);
-    choose(
-        is_finite(cos2),
-        config.roll_compensation * (1.0 / cos2 - 1.0),
-        0.0,
-    )
-}
-
-#[tactic(auto, unfolding(crate::specs::Tecs::feedforward))]
-fn feedforward(rate: f32, config: TecsConfig, limits: Limits) -> f32
-    ensures { result ≡ spec.feedforward rate config limits }
-{
-    let cruise = clamp(limits.cruise_thrust, limits.min_thrust, limits.max_thrust);
-    if rate >= 0.0 {
-        cruise + rate / max_energy_rate(config) * (limits.max_thrust - cruise)
-    } else {
-        cruise + rate / -(-GRAVITY * config.min_sink_mps) * (cruise - limits.min_thrust)
-    }
-}
-
-#[tactic(auto, unfolding(crate::specs::Tecs::balanced_thrust))]
-fn balanced_thrust(
-    integral: f32,
-    config: TecsConfig,
-    limits: Limits,
-    e: Energies,
-    dt: f32,
-    roll_rad: f32,
-) -> ThrustResult
-    ensures { result ≡ spec.balanced_thrust integral config limits e dt roll_rad }
-{
-    let low = limits.min_thrust;
-    let high = limits.max_thrust;
-    let max_rate = GRAVITY * config.max_climb_mps;
-    let min_rate = -GRAVITY * config.min_sink_mps;
-    let kinetic_rate_demand = clamp_symmetric(e.kinetic_rate_demand, 0.5 * max_rate);
-    let rate_demand = clamp(
-        e.potential_rate_demand + kinetic_rate_demand,
-        min_rate,
-        max_rate,
-    );
-    let rate = e.potential_rate + e.kinetic_rate;
-    let forward = feedforward(rate_demand + turn_rate(config, roll_rad), config, limits);
-    let gain = (high - low) / (max_rate - min_rate);
-    let proportional = forward + gain * config.thrust_damping * (rate_demand - rate);
-    let total_error = e.potential_error + e.kinetic_error;
-    let sum = clamp(
-        integral + config.integrator_gain * gain * total_error / config.time_constant_s * dt,
-        low - proportional - THRUST_INTEGRAL_MARGIN,
-        high - proportional + THRUST_INTEGRAL_MARGIN,
-    );
-    ThrustResult {
-        thrust: clamp(proportional + sum, low, high),
-        integral: sum,
-    }
-}
-
-#[tactic(auto, unfolding(crate::specs::Tecs::thrust))]
 pub fn thrust(
     underspeed: u32,
     integral: f32,
@@ -409,27 +493,15 @@ pub fn thrust(
 ) -> ThrustResult
     ensures { result ≡ spec.thrust underspeed integral config limits e dt roll_rad }
 {
-    if flag(underspeed) {
-        return ThrustResult {
-            thrust: limits.max_thrust,
-            integral,
-        };
-    }
-    balanced_thrust(integral, config, limits, e, dt, roll_rad)
+    let balance = Balance {
+        config,
+        limits,
+        energies: e,
+        dt,
+    };
+    balance.thrust(underspeed, integral, roll_rad)
 }
 
-#[tactic(auto, unfolding(crate::specs::Tecs::pitch_integral))]
-fn pitch_integral(pinned: bool, integral: f32, step: f32, dt: f32, config: TecsConfig) -> f32
-    ensures { result ≡ spec.pitch_integral pinned integral step dt config }
-{
-    if pinned {
-        lagged(integral, 0.0, dt, config.time_constant_s)
-    } else {
-        integral + step
-    }
-}
-
-#[tactic(auto, unfolding(crate::specs::Tecs::pitch))]
 pub fn pitch(
     underspeed: u32,
     integral: f32,
@@ -440,44 +512,24 @@ pub fn pitch(
 ) -> PitchResult
     ensures { result ≡ spec.pitch underspeed integral config limits e dt }
 {
-    let high = limits.pitch_up_rad;
-    let low = -limits.pitch_down_rad;
-    let speed_weight = choose(flag(underspeed), 2.0, config.speed_weight);
-    let kinetic_weight = least(speed_weight, 1.0);
-    let potential_weight = least(2.0 - speed_weight, 1.0);
-    let rate_demand = clamp(
-        potential_weight * e.potential_rate_demand - kinetic_weight * e.kinetic_rate_demand,
-        -GRAVITY * config.max_sink_mps,
-        GRAVITY * config.max_climb_mps,
-    );
-    let rate = potential_weight * e.potential_rate - kinetic_weight * e.kinetic_rate;
-    let rate_error = rate_demand - rate;
-    let per_rad = e.speed_mps * GRAVITY;
-    let proportional_rad = limits.trim_pitch_rad
-        + (rate_demand + config.pitch_damping * rate_error) / per_rad;
-    let step_rad = config.pitch_integrator_gain * rate_error / per_rad * dt;
-    let unclamped = proportional_rad + integral + step_rad;
-    let pinned = ((unclamped > high) & (step_rad > 0.0)) | ((unclamped < low) & (step_rad < 0.0));
-    let next = clamp(
-        pitch_integral(pinned, integral, step_rad, dt, config),
-        low - high,
-        high - low,
-    );
-    PitchResult {
-        pitch_rad: clamp(proportional_rad + next, low, high),
-        integral_rad: next,
-    }
+    let balance = Balance {
+        config,
+        limits,
+        energies: e,
+        dt,
+    };
+    balance.pitch(underspeed, integral)
 }
 
 #[tactic(auto, unfolding(crate::specs::Tecs::all_inputs_finite))]
 pub fn all_inputs_finite(inputs: Inputs) -> bool
     ensures { result ≡ spec.all_inputs_finite inputs }
 {
-    is_finite(inputs.altitude_m)
-        & is_finite(inputs.airspeed_target_mps)
-        & is_finite(inputs.airspeed_mps)
-        & is_finite(inputs.height_m)
-        & is_finite(inputs.climb_mps)
+    inputs.altitude_m.is_finite()
+        & inputs.airspeed_target_mps.is_finite()
+        & inputs.airspeed_mps.is_finite()
+        & inputs.height_m.is_finite()
+        & inputs.climb_mps.is_finite()
 }
 
 // What the Rust's step gives where an input is not finite.
@@ -499,30 +551,24 @@ pub fn energy_step(s: Tecs, config: TecsConfig, limits: Limits, inputs: Inputs) 
 {
     let underspeed = update_underspeed(s.underspeed, config, inputs.airspeed_mps);
     let speed_mps = greatest(inputs.airspeed_mps, MIN_GAIN_AIRSPEED_MPS);
-    let r = update_energies(s, config, inputs, speed_mps);
-    let e = r.energies;
-    let demand = r.demand;
-    let th = thrust(
-        underspeed,
-        s.thrust_integral,
+    let sample = Sample {
+        config,
+        inputs,
+        speed_mps,
+    };
+    let r = sample.energies(s);
+    let balance = Balance {
         config,
         limits,
-        e,
-        inputs.dt,
-        inputs.roll_rad,
-    );
-    let p = pitch(
-        underspeed,
-        s.pitch_integral_rad,
-        config,
-        limits,
-        e,
-        inputs.dt,
-    );
+        energies: r.energies,
+        dt: inputs.dt,
+    };
+    let th = balance.thrust(underspeed, s.thrust_integral, inputs.roll_rad);
+    let p = balance.pitch(underspeed, s.pitch_integral_rad);
     TecsResult {
         tecs: Tecs {
             seeded: 1,
-            demand,
+            demand: r.demand,
             pitch_integral_rad: p.integral_rad,
             thrust_integral: th.integral,
             underspeed,

@@ -8,13 +8,14 @@ use arithmetic::vector::Vec2;
 pub const GRAVITY: f32 = 9.80665;
 
 #[repr(C)]
-#[derive(Clone, Copy)]
+#[derive(Clone, Copy, Default)]
 pub struct Vec3 {
     pub x: f32,
     pub y: f32,
     pub z: f32,
 }
 
+// No From: which two of the three is said by the name.
 pub fn north_east(v: Vec3) -> Vec2
     ensures { result ≡ spec.north_east v }
 {
@@ -71,14 +72,33 @@ pub enum ControlInput {
     AbsoluteRate(AbsoluteRateCommand),
 }
 
-#[derive(Clone, Copy)]
+// In the order of their numbers.
+#[derive(Clone, Copy, PartialEq, Eq)]
 pub enum FlightRegime {
     Copter,
     Plane,
 }
 
+// A number that is no regime's.
+#[derive(Clone, Copy, PartialEq, Eq)]
+pub struct UnknownRegime;
+
+impl TryFrom<u32> for FlightRegime {
+    type Error = UnknownRegime;
+
+    ghost try_from_gives = { λ number r. r ≡ spec.regime_from number };
+
+    fn try_from(number: u32) -> Result<FlightRegime, UnknownRegime> {
+        match number {
+            0 => Ok(FlightRegime::Copter),
+            1 => Ok(FlightRegime::Plane),
+            _ => Err(UnknownRegime),
+        }
+    }
+}
+
 // What the sensors report: position and velocity as north, east, up.
-#[derive(Clone, Copy)]
+#[derive(Clone, Copy, Default)]
 pub struct VehicleState {
     pub position_m: Vec3,
     pub velocity_mps: Vec3,

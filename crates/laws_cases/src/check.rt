@@ -1,36 +1,19 @@
 // One function for each law: whether its answer to a row's input is the row's.
+ghost use Rattle.std.specs.Prelude.{◌+◌, ◌≤◌};
+ghost use Rattle.case_rows.specs.declared.TheConstants.{MOST_WORDS};
+
 use arithmetic::vector::Vec2;
-use case_rows::{Row, from_bits, to_bits};
-use config_numbers::{bits_of, config_of_bits};
-use laws::config::TecsConfig;
+use case_rows::energy::energy_words;
+use case_rows::{Row, from_bits};
+use config_numbers::{bits_of, config_of_bits, tecs_of};
+use laws::config::{PlaneGuidanceConfig, TecsConfig};
 use laws::navigation::PiLoop;
 use laws::tecs::{Demand, Energies, Inputs, Limits, Tecs};
 use laws::{config, math, navigation, tecs};
 
+// Also in guidance_cases: case_rows, on which both stand, knows no vectors.
 fn vec2([x, y]: [f32; 2]) -> Vec2 {
     Vec2 { x, y }
-}
-
-// The 16 numbers of the energy configuration.
-fn tecs_config(n: [f32; 16]) -> TecsConfig {
-    TecsConfig {
-        time_constant_s: n[0],
-        max_climb_mps: n[1],
-        min_sink_mps: n[2],
-        max_sink_mps: n[3],
-        thrust_damping: n[4],
-        integrator_gain: n[5],
-        pitch_damping: n[6],
-        pitch_integrator_gain: n[7],
-        speed_weight: n[8],
-        roll_compensation: n[9],
-        min_airspeed_mps: n[10],
-        max_airspeed_mps: n[11],
-        underspeed_share: n[12],
-        height_demand_time_constant_s: n[13],
-        airspeed_rate_time_constant_s: n[14],
-        kinetic_rate_high_pass_s: n[15],
-    }
 }
 
 fn limits(n: [f32; 6]) -> Limits {
@@ -41,6 +24,19 @@ fn limits(n: [f32; 6]) -> Limits {
         min_thrust: n[3],
         max_thrust: n[4],
         cruise_thrust: n[5],
+    }
+}
+
+// The numbers are altitude, target, airspeed, height, climb and roll.
+fn inputs(dt: f32, n: [f32; 6]) -> Inputs {
+    Inputs {
+        dt,
+        altitude_m: n[0],
+        airspeed_target_mps: n[1],
+        airspeed_mps: n[2],
+        height_m: n[3],
+        climb_mps: n[4],
+        roll_rad: n[5],
     }
 }
 
@@ -84,21 +80,23 @@ fn state(w: [u32; 9]) -> Tecs {
     }
 }
 
-fn words_of(s: Tecs) -> [u32; 9] {
-    [
-        s.seeded,
-        to_bits(s.demand.slewed_height_m),
-        to_bits(s.demand.height_m),
-        to_bits(s.demand.airspeed_mps),
-        to_bits(s.filtered_airspeed_mps),
-        to_bits(s.steady_accel_mps2),
-        to_bits(s.pitch_integral_rad),
-        to_bits(s.thrust_integral),
-        s.underspeed,
-    ]
+// What a row of thrust, pitch or a whole step begins with: dt, the configuration, the limits.
+fn head(row: &Row) -> (f32, TecsConfig, Limits) {
+    (
+        from_bits(row.words[0]),
+        tecs_of(row.numbers(1)),
+        limits(row.numbers(17)),
+    )
 }
 
-// A law of one number.
+// Whether a row has these numbers from a place on, and the state after them.
+fn has_state<const N: usize>(row: &Row, from: usize, numbers: [f32; N], after: Tecs) -> bool
+    requires { from + N + 9 ≤ MOST_WORDS }
+{
+    row.has(from, numbers) && row.words(from + N) == energy_words(after)
+}
+
+// A law of one number. Not one function with the next: tried, and a bound `Fn([f32; N])` is not covered by the borrow checker yet.
 pub fn of_one<L: Fn(f32) -> f32>(row: &Row, law: L) -> bool
     requires { L.IsAlwaysCallable law }
 {
@@ -159,7 +157,7 @@ pub fn pi_step(row: &Row) -> bool {
 }
 
 pub fn update_underspeed(row: &Row) -> bool {
-    let config = tecs_config(row.numbers(0));
+    let config = tecs_of(row.numbers(0));
     let airspeed_mps = from_bits(row.words[16]);
     tecs::update_underspeed(row.words[17], config, airspeed_mps) == row.words[18]
 }
@@ -167,17 +165,13 @@ pub fn update_underspeed(row: &Row) -> bool {
 // dt, the configuration, altitude, target, airspeed, floored airspeed, height, climb, roll, state.
 pub fn energies(row: &Row) -> bool {
     let n = row.numbers::<7>(17);
-    let inputs = Inputs {
-        dt: from_bits(row.words[0]),
-        altitude_m: n[0],
-        airspeed_target_mps: n[1],
-        airspeed_mps: n[2],
-        height_m: n[4],
-        climb_mps: n[5],
-        roll_rad: n[6],
-    };
+    let read = inputs(
+        from_bits(row.words[0]),
+        [n[0], n[1], n[2], n[4], n[5], n[6]],
+    );
     let before = state(row.words(24));
-    let r = tecs::update_energies(before, tecs_config(row.numbers(1)), inputs, n[3]);
+    let config = tecs_of(row.numbers(1));
+    let r = tecs::update_energies(before, config, read, n[3]);
     let after = Tecs {
         seeded: 1,
         demand: r.demand,
@@ -185,66 +179,48 @@ pub fn energies(row: &Row) -> bool {
         steady_accel_mps2: r.filter.steady_accel_mps2,
         ..before
     };
-    row.has(33, numbers_of(r.energies)) && row.words(40) == words_of(after)
+    has_state(row, 33, numbers_of(r.energies), after)
 }
 
-// dt, the configuration, the limits, the energies, roll, state.
+// After the head the energies, roll, state.
 pub fn thrust(row: &Row) -> bool {
+    let (dt, config, limits) = head(row);
+    let e = energies_of(row.numbers(23));
+    let roll_rad = from_bits(row.words[30]);
     let before = state(row.words(31));
-    let r = tecs::thrust(
-        before.underspeed,
-        before.thrust_integral,
-        tecs_config(row.numbers(1)),
-        limits(row.numbers(17)),
-        energies_of(row.numbers(23)),
-        from_bits(row.words[0]),
-        from_bits(row.words[30]),
-    );
+    let (underspeed, integral) = (before.underspeed, before.thrust_integral);
+    let r = tecs::thrust(underspeed, integral, config, limits, e, dt, roll_rad);
     let after = Tecs {
         thrust_integral: r.integral,
         ..before
     };
-    row.has(40, [r.thrust]) && row.words(41) == words_of(after)
+    has_state(row, 40, [r.thrust], after)
 }
 
-// dt, the configuration, the limits, the energies, state.
+// After the head the energies, state.
 pub fn pitch(row: &Row) -> bool {
+    let (dt, config, limits) = head(row);
+    let e = energies_of(row.numbers(23));
     let before = state(row.words(30));
-    let r = tecs::pitch(
-        before.underspeed,
-        before.pitch_integral_rad,
-        tecs_config(row.numbers(1)),
-        limits(row.numbers(17)),
-        energies_of(row.numbers(23)),
-        from_bits(row.words[0]),
-    );
+    let (underspeed, integral) = (before.underspeed, before.pitch_integral_rad);
+    let r = tecs::pitch(underspeed, integral, config, limits, e, dt);
     let after = Tecs {
         pitch_integral_rad: r.integral_rad,
         ..before
     };
-    row.has(39, [r.pitch_rad]) && row.words(40) == words_of(after)
+    has_state(row, 39, [r.pitch_rad], after)
 }
 
-// dt, the configuration, the limits, altitude, target, airspeed, height, climb, roll, state.
+// After the head altitude, target, airspeed, height, climb, roll, state.
 pub fn tecs_step(row: &Row) -> bool {
-    let n = row.numbers::<6>(23);
-    let inputs = Inputs {
-        dt: from_bits(row.words[0]),
-        altitude_m: n[0],
-        airspeed_target_mps: n[1],
-        airspeed_mps: n[2],
-        height_m: n[3],
-        climb_mps: n[4],
-        roll_rad: n[5],
-    };
-    let config = tecs_config(row.numbers(1));
+    let (dt, config, limits) = head(row);
     let r = tecs::step(
         state(row.words(29)),
         config,
-        limits(row.numbers(17)),
-        inputs,
+        limits,
+        inputs(dt, row.numbers(23)),
     );
-    row.has(38, [r.pitch_rad, r.thrust]) && row.words(40) == words_of(r.tecs)
+    has_state(row, 38, [r.pitch_rad, r.thrust], r.tecs)
 }
 
 pub fn validate(row: &Row) -> bool {
@@ -256,5 +232,5 @@ pub fn validate(row: &Row) -> bool {
 }
 
 pub fn default(row: &Row) -> bool {
-    bits_of(config::default()) == row.words(0)
+    bits_of(PlaneGuidanceConfig::default()) == row.words(0)
 }

@@ -1,6 +1,6 @@
 // Runs the laws on the rows of data/ and counts those that they answer as the rows say, bit for bit, every NaN alike. The files
-// named after a law are the oracle's rows, laws/ of its fixed list, where they are described; those of documents 01's and 02's cases are made
-// by tools/vectors/laws.py.
+// named after a law have the oracle's rows (tools/oracle/fixed/README.md says what is in one); those of documents 01's and 02's cases are
+// made by tools/vectors/laws.py.
 #![tactic(auto)]
 
 mod check;

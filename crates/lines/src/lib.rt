@@ -1,5 +1,5 @@
-// Lines of text: a call's number, words and a list of numbers. Each writer writes at the front of a lent part, keeps
-// the part's other bytes, and answers how many it wrote.
+// Lines of text: a call's number, words and a list of numbers. Each writer writes at the front of a lent part (no heap), which has room
+// for it, keeps the part's other bytes, and answers how many it wrote.
 // Not by fmt::Display: tried, and put_line, which can't fail, didn't close: a formatter says what an Ok wrote, not that it is Ok.
 #![tactic(auto)]
 
@@ -38,6 +38,7 @@ pub struct Line {
     pub call: Option<u32>,
     pub first: Word,
     pub second: Option<Word>,
+    // A number and no Refusal: a configuration's failing field is printed here too, and lines know no refusals.
     pub refusal: Option<u32>,
     pub values: Values,
 }
@@ -96,7 +97,8 @@ fn digit_of(d: u32) -> u8
     }
 }
 
-// As many of a number's lowest digits as the part has bytes.
+// As many of a number's lowest digits as the part has bytes. By index: of what a loop over iter_mut().rev() leaves, a proof knows
+// the length alone.
 #[tactic(auto, using(crate::proofs::DigitLaw::digit_steps))]
 fn put_digits<const BASE: u32>(part: &mut [u8], n: u32)
     requires { (0 < BASE) × (BASE ≤ 16) }
@@ -188,6 +190,7 @@ fn put_value(part: &mut [u8], v: u32) -> usize
     1 + put_hex(&mut part[1..], v)
 }
 
+// With a place that is carried: of what a loop over chunks_mut leaves, a proof knows the length alone.
 #[tactic(auto, using(crate::proofs::PutLaw::puts, crate::proofs::TextLaw::values_room, crate::proofs::TextLaw::values_next))]
 fn put_values(part: &mut [u8], printed: &[u32]) -> usize
     requires { length (values printed.now) ≤ length part.old }

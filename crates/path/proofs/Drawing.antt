@@ -9,8 +9,8 @@ use borrow.Rule.Slice.PartMut.{put_mid, Post-is}
 use lib.Ieee.{Float}
 use lib.ListN.{length, take, drop, length-append, length-drop, take-append-drop}
 use lib.Seq.{take_all, take_at, drop_at, drop-length, length-take-le}
-use Rattle.guidance.specs.declared.plane.WaypointCall.{WaypointCall}
 use Rattle.laws.specs.declared.types.Vec3.{Vec3}
+use Rattle.guidance.specs.Plane.{WaypointCall}
 use Rattle.path.specs.Model.{step, moved, whether_moved}
 use Rattle.path.specs.Path.{Path, none, stopped_here, onward, next, path, numbers_of, put, stop_after, told}
 use Rattle.path.specs.declared.model.Model.{Model}

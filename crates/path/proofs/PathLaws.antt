@@ -12,9 +12,9 @@ use Rattle.refusals.specs.declared.Refusal.{Refusal}
 use Rattle.laws.specs.declared.types.Vec3.{Vec3}
 use Rattle.laws.specs.declared.types.VehicleState.{VehicleState}
 use Rattle.laws.specs.declared.types.Setpoint.TheVariants as Set
+use Rattle.guidance.specs.Plane.{WaypointCall}
 use Rattle.guidance.specs.declared.plane.PlaneGuidance.{PlaneGuidance}
 use Rattle.guidance.specs.declared.plane.WaypointAnswer.{WaypointAnswer}
-use Rattle.guidance.specs.declared.plane.WaypointCall.{WaypointCall}
 use Rattle.guidance.specs.declared.plane.Answer.{Answer}
 use Rattle.guidance.specs.declared.plane.Answer.TheVariants.{Waypoint}
 use Rattle.path.specs.Model.{step, by_answer, by_setpoint, flown, finite_plane, settled}

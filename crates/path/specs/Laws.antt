@@ -3,11 +3,10 @@ use Rattle.std.specs.Prelude.{ℕ, suc, ◌+◌, ◌*◌, ◌≤◌, ◌≡◌, 
 use Rattle.refusals.specs.declared.Refusal.{Refusal}
 use Rattle.laws.specs.declared.types.ControlInput.TheVariants as Input
 use Rattle.laws.specs.declared.types.Setpoint.TheVariants as Set
-use Rattle.guidance.specs.Plane.{guided}
+use Rattle.guidance.specs.Plane.{WaypointCall, guided}
 use Rattle.guidance.specs.declared.plane.PlaneGuidance.{PlaneGuidance}
 use Rattle.guidance.specs.declared.plane.WaypointAnswer.{WaypointAnswer}
 use Rattle.guidance.specs.declared.plane.Answer.TheVariants.{Waypoint}
-use Rattle.guidance.specs.declared.plane.WaypointCall.{WaypointCall}
 use Rattle.guidance.specs.declared.plane.Guided.{Guided}
 use Rattle.path.specs.Model.{flown, finite_plane}
 use Rattle.path.specs.Path.{path, start, stopped_here, put}

@@ -15,12 +15,11 @@ use Rattle.laws.specs.declared.types.ControlInput.TheVariants as Input
 use Rattle.laws.specs.declared.types.VehicleState.{VehicleState}
 use Rattle.laws.specs.declared.types.Setpoint.{Setpoint}
 use Rattle.laws.specs.declared.types.Setpoint.TheVariants as Set
-use Rattle.guidance.specs.Plane.{guided}
+use Rattle.guidance.specs.Plane.{WaypointCall, guided}
 use Rattle.guidance.specs.declared.plane.PlaneGuidance.{PlaneGuidance}
 use Rattle.guidance.specs.declared.plane.Guided.{Guided}
 use Rattle.guidance.specs.declared.plane.Answer.{Answer}
 use Rattle.guidance.specs.declared.plane.Answer.TheVariants.{Commanded, Waypoint}
-use Rattle.guidance.specs.declared.plane.WaypointCall.{WaypointCall}
 use Rattle.path.specs.declared.model.Model.{Model}
 use Rattle.path.specs.declared.model.Stop.{Stop}
 use Rattle.path.specs.declared.model.Stop.TheVariants.{Refused, NotFinite}

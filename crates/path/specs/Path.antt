@@ -4,8 +4,8 @@ use Rattle.refusals.specs.Numbers.{number}
 use Rattle.refusals.specs.declared.Refusal.{Refusal}
 use Rattle.refusals.specs.declared.Refusal.TheVariants as refusal
 use Rattle.laws.specs.declared.types.Vec3.{Vec3}
+use Rattle.guidance.specs.Plane.{WaypointCall}
 use Rattle.guidance.specs.declared.plane.PlaneGuidance.{PlaneGuidance}
-use Rattle.guidance.specs.declared.plane.WaypointCall.{WaypointCall}
 use Rattle.path.specs.Model.{step, stop_number}
 use Rattle.path.specs.declared.model.Model.{Model}
 use Rattle.path.specs.declared.model.Stop.{Stop}

@@ -1,4 +1,4 @@
-// The path into a lent buffer, three numbers a point.
+// The path into a lent buffer (no heap), three numbers a point.
 ghost use Rattle.std.specs.Prelude.{◌≡◌, ◌++◌, ◌≤◌, ◌*◌, length, drop};
 ghost use Rattle.path.specs.Model as model_spec;
 ghost use Rattle.path.specs.Path as spec;
@@ -17,7 +17,7 @@ pub struct Drawn {
     pub stopped: Option<Stopped>,
 }
 
-// The step at which a path stopped, counted from 1.
+// The step at which a path stopped, counted from 1: one past those drawn, said as C and the page have it.
 #[derive(Clone, Copy)]
 pub struct Stopped {
     pub step: usize,
@@ -34,20 +34,19 @@ fn put_point(part: &mut [f32], p: Vec3)
 }
 
 // One step in place, out of line, so that a path stays within the stack that include/nuthkolla.h names: in the loop's own line what no
-// step changes would be worked out before the loop and kept on the stack. A step changes no configuration, so they are not put back.
+// step changes would be worked out before the loop and kept on the stack.
 #[inline(never)]
 fn advance(m: &mut Model, call: &WaypointCall) -> Result<(), Stop>
     ensures moved { m.new ≡ model_spec.moved m.old (model_spec.step call.now m.old) }
     ensures stopped { result ≡ model_spec.whether_moved (model_spec.step call.now m.old) }
 {
     let next = step(*m, *call)?;
-    m.guidance.requested = next.guidance.requested;
-    m.guidance.altitude = next.guidance.altitude;
-    m.guidance.tecs = next.guidance.tecs;
+    m.guidance.take_over(next.guidance);
     m.state = next.state;
     Ok(())
 }
 
+// By index: after `as_chunks_mut` or `chunks_exact_mut` std says nothing of what the slice ends as, so `out.new` would not be proved.
 fn draw_steps(g: PlaneGuidance, call: WaypointCall, steps: usize, out: &mut [f32]) -> Drawn
     requires { (steps ≤ 600) × (3 * steps ≤ length out.old) }
     ensures { (result ≡ spec.told (spec.path steps call (spec.start g call))) × (out.new ≡ spec.put (spec.path steps call (spec.start g call)).points out.old) }

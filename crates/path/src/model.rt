@@ -3,7 +3,7 @@ ghost use Rattle.std.specs.Prelude.{◌≡◌};
 ghost use Rattle.path.specs.declared.model.Stop.TheVariants as stop;
 ghost use Rattle.path.specs.Model as spec;
 
-use arithmetic::order::{clamp_ordered, is_finite};
+use arithmetic::order::clamp_ordered;
 use arithmetic::trigonometry::{FRAC_PI_2, cosine, sine};
 use arithmetic::vector::{Vec2, norm};
 pub use guidance::plane::WaypointCall;
@@ -34,7 +34,7 @@ impl From<Refusal> for Stop {
 }
 
 impl Stop {
-    // The refusal's number, and 0 for a number that is not finite.
+    // The refusal's number, and 0 for a number that is not finite. No From, as for `Refusal::number`.
     pub fn number(self) -> u32
         ensures { result ≡ spec.stop_number self }
     {
@@ -102,14 +102,15 @@ fn flown(state: VehicleState, dt: f32, roll_rad: f32, pitch_rad: f32) -> Vehicle
     }
 }
 
+// Not by laws' `all_finite`, which is of a Vec2: three tests are plainer than a call and a test.
 #[tactic(auto, unfolding(crate::specs::Model::all_finite))]
 fn all_finite(v: Vec3) -> bool
     ensures { result ≡ spec.all_finite v }
 {
-    is_finite(v.x) & is_finite(v.y) & is_finite(v.z)
+    v.x.is_finite() & v.y.is_finite() & v.z.is_finite()
 }
 
-// The step that leads to this state; none where a number of its position or velocity is not finite.
+// The step that leads to this state; `NotFinite` where a number of its position or velocity is not finite.
 #[tactic(auto, unfolding(crate::specs::Model::settled))]
 fn settled(guidance: PlaneGuidance, state: VehicleState) -> Result<Model, Stop>
     ensures { result ≡ spec.settled guidance state }
@@ -145,9 +146,10 @@ fn by_setpoint(
 pub fn step(m: Model, call: WaypointCall) -> Result<Model, Stop>
     ensures { result ≡ spec.step call m }
 {
-    let o = m
-        .guidance
-        .guide_step(call.dt, call.regime, call.command, m.state, call.cap);
+    let o = m.guidance.guide_step(WaypointCall {
+        state: m.state,
+        ..call
+    });
     let setpoint = match o.answer? {
         Answer::Commanded(setpoint) => setpoint,
         Answer::Waypoint(w) => w.setpoint,

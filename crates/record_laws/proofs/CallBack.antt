@@ -25,6 +25,8 @@ use Rattle.fields.proofs.MapLaw.{floats_length}
 use Rattle.fields.proofs.FieldLaw.{ones_le, values_long}
 use Rattle.fields.proofs.RecordLaw.{map_bit, field_at, fields_back, Within, size_within, halved, value_missing, floats_back, floats_are, bits_held, get_d_mapped}
 use Rattle.fields.proofs.LawsProof.{laws}
+use Rattle.records.specs.declared.call.Kind.{Kind}
+use Rattle.records.specs.declared.call.Kind.TheVariants as kind
 use Rattle.records.specs.declared.call.Call.{Call}
 use Rattle.records.specs.declared.call.Call.TheVariants.{Prime, Attitude, Rate, Waypoint, AbsoluteAttitude, Land, AbsoluteRate}
 use Rattle.records.specs.declared.call_writer.Parts.{Parts}
@@ -35,6 +37,7 @@ use Rattle.std.specs.Bool.{then_some}
 use Rattle.refusals.specs.declared.Refusal.TheVariants as refusal
 use Rattle.records.specs.Call.{
   call_fields,
+  number_of,
   complete,
   unknown,
   regime_of,
@@ -64,23 +67,26 @@ use Rattle.records.specs.Call.{
 use Rattle.records.specs.Call as spec
 use Rattle.records.specs.Code.Steps.{regime_at}
 use Rattle.record_laws.specs.Laws.{CallF32, call_read, CallLaws, CallLongest}
-use Rattle.records.proofs.CallLaw.{fields_long, fields_are, size_is, Numbers, parts_long, regime_le, values_are, complete_gives, Flags, Values, Map, flags_long, call_values_long, map_by_fields, map_below, call_is, call_long}
+use Rattle.records.proofs.CallLaw.{fields_long, fields_are, size_is, Numbers, parts_long, values_are, complete_gives, Flags, Values, Map, flags_long, call_values_long, map_by_fields, map_below, call_is, call_long}
 
 -- ---- the parts of a call
 
-kind_le : (c : Call) → (parts_of c).kind ≤ 6
-unfolding parts_of command_parts waypoint_parts
-kind_le Prime = omega arith
-kind_le (Attitude r dt c) = omega arith
-kind_le (Rate r dt c) = omega arith
-kind_le (Waypoint r dt c s cap) = omega arith
-kind_le (AbsoluteAttitude r dt c) = omega arith
-kind_le (Land r dt) = omega arith
-kind_le (AbsoluteRate r dt c) = omega arith
+kind_small : (k : Kind) → number_of k ≤ 6
+kind_small kind.Prime = omega arith
+kind_small kind.Attitude = omega arith
+kind_small kind.Rate = omega arith
+kind_small kind.Waypoint = omega arith
+kind_small kind.AbsoluteAttitude = omega arith
+kind_small kind.Land = omega arith
+kind_small kind.AbsoluteRate = omega arith
+
+regime_small : (r : FlightRegime) → regime_byte r ≤ 1
+regime_small Copter = omega arith
+regime_small Plane = omega arith
 
 pub values_held : (c : Call) → CallF32 c → Held call_fields (Values c)
 unfolding Held values_of
-values_held c f = rw fields_are (omega (arith, kind_le c), (omega (arith, regime_le c), bits_held (replicate 20 0) (parts_of c).numbers (parts_long c) f))
+values_held c f = rw fields_are (omega (arith, kind_small (parts_of c).kind), (omega (arith, regime_small (parts_of c).regime), bits_held (replicate 20 0) (parts_of c).numbers (parts_long c).0 f))
 
 -- ---- the map of a call is complete
 
@@ -184,7 +190,7 @@ module _ (r : FlightRegime) (dt : Float) (c : WaypointCommand) (s : VehicleState
         option_back cap (m / 2 ^ 21) (rw e cap_bit),
       )
 
-call_back : (c : Call) (m : ℕ) → m ≡ Map c → call_at (parts_of c).kind (regime_of (parts_of c).regime) m (parts_of c).numbers ≡ c
+call_back : (c : Call) (m : ℕ) → m ≡ Map c → call_at (number_of (parts_of c).kind) (regime_of (regime_byte (parts_of c).regime)) m (parts_of c).numbers ≡ c
 unfolding call_at attitude_at rate_at absolute_attitude_at absolute_rate_at parts_of command_parts waypoint_parts
 call_back Prime m e = refl
 call_back (Attitude r dt c) m e = rw (regime_back r)
@@ -205,13 +211,13 @@ long = call_long
 values_back : (c : Call) (rest : List ℕ) → CallF32 c → values_at call_fields (Map c) (Body c ++ rest) ≡ Values c
 values_back c rest f = rw (map_by_fields c) (fields_back call_fields (Flags c) (Values c) rest (flags_long c) (values_held c f))
 
-values_split : (p : Parts) → values_of p ≡ p.kind ∷ p.regime ∷ bits_of p.numbers
+values_split : (p : Parts) → values_of p ≡ number_of p.kind ∷ regime_byte p.regime ∷ bits_of p.numbers
 unfolding values_of
 values_split p = refl
 
-known : (c : Call) → unknown (parts_of c).kind (parts_of c).regime ≡ false
+known : (k : Kind) (r : FlightRegime) → unknown (number_of k) (regime_byte r) ≡ false
 unfolding unknown
-known c = rw (le-ltb 6 (parts_of c).kind (kind_le c), le-ltb 1 (parts_of c).regime (regime_le c))
+known k r = rw (le-ltb 6 (number_of k) (kind_small k), le-ltb 1 (regime_byte r) (regime_small r))
 
 pub stands_at : (s : List ℕ) (at : ℕ) (c : Call) (rest : List ℕ) → at ≤ length s → drop at s ≡ call_record c ++ rest → CallF32 c
     → read_call s at ≡ call_read c (at + length (call_record c))
@@ -233,7 +239,7 @@ stands_at s at c rest h e f =
       after,
       values_back c rest f,
       values_split (parts_of c),
-      known c,
+      known (parts_of c).kind (parts_of c).regime,
       floats_back (parts_of c).numbers f,
       call_back c m refl,
     )
@@ -308,10 +314,10 @@ legs_fit m x y h k = go (stands m)
     go true = (h, k)
     go false = (zero_fits, zero_fits)
 
-command_fits : (kind g : ℕ) (dt a b c d : Float) → T (fits binary32 dt) → T (fits binary32 a) → T (fits binary32 b) → T (fits binary32 c) → T (fits binary32 d)
-    → AreF32 (command_parts kind g dt a b c d).numbers
+command_fits : (k : Kind) (g : FlightRegime) (dt a b c d : Float) → T (fits binary32 dt) → T (fits binary32 a) → T (fits binary32 b) → T (fits binary32 c) → T (fits binary32 d)
+    → AreF32 (command_parts k g dt (a ∷ b ∷ c ∷ d ∷ [])).numbers
 unfolding AreF32 command_parts
-command_fits kind g dt a b c d f₀ f₁ f₂ f₃ f₄ = (
+command_fits k g dt a b c d f₀ f₁ f₂ f₃ f₄ = (
   f₀,
   (
     f₁,
@@ -353,7 +359,7 @@ module _ (m : ℕ) (v : List Float) (h : AreF32 v) (l : length v ≡ 20) where
   leg_fits : T (fits binary32 (leg_north (leg_of (m / 2 ^ 9) (spec.at v 9) (spec.at v 10)))) × T (fits binary32 (leg_east (leg_of (m / 2 ^ 9) (spec.at v 9) (spec.at v 10))))
   leg_fits = legs_fit (m / 2 ^ 9) (spec.at v 9) (spec.at v 10) (fit_at 7 (lit< tt)) (fit_at 8 (lit< tt))
 
-  waypoint_fits : (g : ℕ) → AreF32 (waypoint_parts g (spec.at v 2) (waypoint_at m v) (state_at m v) (option_of (m / 2 ^ 21) (spec.at v 21))).numbers
+  waypoint_fits : (g : FlightRegime) → AreF32 (waypoint_parts g (spec.at v 2) (waypoint_at m v) (state_at m v) (option_of (m / 2 ^ 21) (spec.at v 21))).numbers
   unfolding AreF32 waypoint_parts waypoint_at state_at
   waypoint_fits g = (
     fit_at 0 (lit< tt),
@@ -424,13 +430,13 @@ module _ (m : ℕ) (v : List Float) (h : AreF32 v) (l : length v ≡ 20) where
       let d = fit_at 4 (lit< tt) in
       let z = zero_fits in
       of_each CallF32 kind r m v
-      (command_fits 0 1 _ _ _ _ _ z z z z z)
-      (command_fits 1 (regime_byte r) _ _ _ _ _ t a b c z)
-      (command_fits 2 (regime_byte r) _ _ _ _ _ t a b c d)
-      (waypoint_fits (regime_byte r))
-      (command_fits 4 (regime_byte r) _ _ _ _ _ t a b c z)
-      (command_fits 5 (regime_byte r) _ _ _ _ _ t z z z z)
-      (command_fits 6 (regime_byte r) _ _ _ _ _ t a b c d)
+      (command_fits _ Plane _ _ _ _ _ z z z z z)
+      (command_fits _ r _ _ _ _ _ t a b c z)
+      (command_fits _ r _ _ _ _ _ t a b c d)
+      (waypoint_fits r)
+      (command_fits _ r _ _ _ _ _ t a b c z)
+      (command_fits _ r _ _ _ _ _ t z z z z)
+      (command_fits _ r _ _ _ _ _ t a b c d)
 
 -- ---- a call that was read is written with no more fields than it had
 
@@ -476,15 +482,15 @@ module _ (m : ℕ) (s : List ℕ) (v : List Float) (ev : v ≡ floats_of (values
   used : (k : ℕ) → k < 20 → stands (halved k (m / 2 / 2)) ≡ false → is_written false (to_bits binary32 (get_or v k nan)) 0 ≡ false
   used k h e = rw (read_zero k h e) zero_out
 
-  command_within : (kind g : ℕ) (dt a b c d : Float)
+  command_within : (k : Kind) (g : FlightRegime) (dt a b c d : Float)
       → (stands (halved 0 (m / 2 / 2)) ≡ false → is_written false (to_bits binary32 dt) 0 ≡ false)
       → (stands (halved 1 (m / 2 / 2)) ≡ false → is_written false (to_bits binary32 a) 0 ≡ false)
       → (stands (halved 2 (m / 2 / 2)) ≡ false → is_written false (to_bits binary32 b) 0 ≡ false)
       → (stands (halved 3 (m / 2 / 2)) ≡ false → is_written false (to_bits binary32 c) 0 ≡ false)
       → (stands (halved 4 (m / 2 / 2)) ≡ false → is_written false (to_bits binary32 d) 0 ≡ false)
-      → Within Numbers (command_parts kind g dt a b c d).keeps (bits_of (command_parts kind g dt a b c d).numbers) (m / 2 / 2)
+      → let p = command_parts k g dt (a ∷ b ∷ c ∷ d ∷ []) in Within Numbers p.keeps (bits_of p.numbers) (m / 2 / 2)
   unfolding Within number_fields bits_of command_parts
-  command_within kind g dt a b c d e₀ e₁ e₂ e₃ e₄ = (
+  command_within k g dt a b c d e₀ e₁ e₂ e₃ e₄ = (
     e₀,
     (
       e₁,
@@ -517,7 +523,7 @@ module _ (m : ℕ) (s : List ℕ) (v : List Float) (ev : v ≡ floats_of (values
         → is_written (has_number (option_of (m / 2 ^ 21) (spec.at v 21))) (to_bits binary32 (number_or0 (option_of (m / 2 ^ 21) (spec.at v 21)))) 0 ≡ false
     cap_left e = option_left (m / 2 ^ 21) (spec.at v 21) (sym (at_bit 19 21 refl) ∙ e)
 
-    waypoint_within : (g : ℕ)
+    waypoint_within : (g : FlightRegime)
         → let p =
         waypoint_parts g (spec.at v 2) (waypoint_at m v) (state_at m v) (option_of (m / 2 ^ 21) (spec.at v 21)) in Within Numbers
         p.keeps (bits_of p.numbers) (m / 2 / 2)
@@ -578,18 +584,18 @@ module _ (m : ℕ) (s : List ℕ) (v : List Float) (ev : v ≡ floats_of (values
         let c = used 3 (lit< tt) in
         let d = used 4 (lit< tt) in
         of_each (λ (k : Call). Within Numbers (parts_of k).keeps (bits_of (parts_of k).numbers) (m / 2 / 2)) kind r m v
-        (command_within 0 1 _ _ _ _ _ left left left left left)
-        (command_within 1 (regime_byte r) _ _ _ _ _ t a b c left)
-        (command_within 2 (regime_byte r) _ _ _ _ _ t a b c d)
-        (waypoint_within (regime_byte r))
-        (command_within 4 (regime_byte r) _ _ _ _ _ t a b c left)
-        (command_within 5 (regime_byte r) _ _ _ _ _ t left left left left)
-        (command_within 6 (regime_byte r) _ _ _ _ _ t a b c d)
+        (command_within _ Plane _ _ _ _ _ left left left left left)
+        (command_within _ r _ _ _ _ _ t a b c left)
+        (command_within _ r _ _ _ _ _ t a b c d)
+        (waypoint_within r)
+        (command_within _ r _ _ _ _ _ t a b c left)
+        (command_within _ r _ _ _ _ _ t left left left left)
+        (command_within _ r _ _ _ _ _ t a b c d)
 
     -- plane is left out
-    regime_within : (kind : ℕ) → is_written false (parts_of (call_at kind Plane m v)).regime 1 ≡ false
+    regime_within : (kind : ℕ) → is_written false (regime_byte (parts_of (call_at kind Plane m v)).regime) 1 ≡ false
     unfolding parts_of command_parts waypoint_parts
-    regime_within kind = of_each (λ (k : Call). is_written false (parts_of k).regime 1 ≡ false) kind Plane m v refl refl refl refl refl refl refl
+    regime_within kind = of_each (λ (k : Call). is_written false (regime_byte (parts_of k).regime) 1 ≡ false) kind Plane m v refl refl refl refl refl refl refl
 
     within : (kind g : ℕ) → stands m ≡ true → (stands (m / 2) ≡ false → g ≡ 1)
         → let c = call_at kind (regime_of g) m v in Within call_fields (Flags c) (Values c) m
@@ -607,11 +613,11 @@ module _ (s : List ℕ) (at : ℕ) where
   abbrev map_number : ℕ
   map_number = number_at 4 (drop at s)
 
-  abbrev Kind : ℕ
-  Kind = get_or (drop at s) 4 0
+  abbrev KindByte : ℕ
+  KindByte = get_or (drop at s) 4 0
 
-  abbrev Regime : ℕ
-  Regime = regime_at (drop at s) map_number
+  abbrev RegimeByte : ℕ
+  RegimeByte = regime_at (drop at s) map_number
 
   abbrev Rest : List ℕ
   Rest = drop (5 + map_number / 2 % 2) (drop at s)
@@ -619,12 +625,12 @@ module _ (s : List ℕ) (at : ℕ) where
   abbrev Floats : List Float
   Floats = floats_of (values_at Numbers (map_number / 2 / 2) Rest)
 
-  values_read : stands map_number ≡ true → values_at call_fields map_number (drop (at + 4) s) ≡ Kind ∷ Regime ∷ values_at Numbers (map_number / 2 / 2) Rest
+  values_read : stands map_number ≡ true → values_at call_fields map_number (drop (at + 4) s) ≡ KindByte ∷ RegimeByte ∷ values_at Numbers (map_number / 2 / 2) Rest
   values_read k =
       let quarter : map_number / 2 / 2 ≡ map_number / 4 = omega arith in
       rw (← drop-drop 4 at s, quarter) (values_are (drop at s) map_number k)
 
-  regime_read : stands (map_number / 2) ≡ false → Regime ≡ 1
+  regime_read : stands (map_number / 2) ≡ false → RegimeByte ≡ 1
   regime_read e = rw e
 
   floats_long : length Floats ≡ 20
@@ -643,16 +649,16 @@ module _ (s : List ℕ) (at : ℕ) where
     given : (stands map_number ≡ true) × (map_number / 2 ^ 9 % 2 ≡ map_number / 2 ^ 10 % 2)
     given = complete_gives map_number answered.0
 
-    call_found : call_at Kind (regime_of Regime) map_number Floats ≡ c
+    call_found : call_at KindByte (regime_of RegimeByte) map_number Floats ≡ c
     call_found = rw (values_read given.0) at answered.1
 
     pub held : CallF32 c
-    held = subst CallF32 call_found (call_fits map_number Floats (floats_are (values_at Numbers (map_number / 2 / 2) Rest)) floats_long Kind (regime_of Regime))
+    held = subst CallF32 call_found (call_fits map_number Floats (floats_are (values_at Numbers (map_number / 2 / 2) Rest)) floats_long KindByte (regime_of RegimeByte))
 
     no_longer : at + length (call_record c) ≤ next
     no_longer =
-        let w = within map_number Rest Floats refl given.1 Kind Regime given.0 regime_read in
-        let read = call_at Kind (regime_of Regime) map_number Floats in
+        let w = within map_number Rest Floats refl given.1 KindByte RegimeByte given.0 regime_read in
+        let read = call_at KindByte (regime_of RegimeByte) map_number Floats in
         let size : size_of call_fields (Map read) ≤ size_of call_fields map_number = rw (map_by_fields read) (size_within call_fields (Flags read) (values_of (parts_of read)) map_number w) in
         let size_c : size_of call_fields (Map c) ≤ size_of call_fields map_number = subst (λ (k : Call). size_of call_fields (Map k) ≤ size_of call_fields map_number) call_found size in
         omega (arith, long c, size_c, answered.2)

@@ -1,6 +1,6 @@
 -- Each outcome of reading a call record, and what is written. Assumes nothing.
 use mathlib.Core.Path.{◌≡◌, refl, sym, ap, subst, ◌∙◌}
-use mathlib.Core.Bool.{Bool, true, false, cond, not, beq, ◌&&◌}
+use mathlib.Core.Bool.{Bool, true, false, cond, beq, ◌&&◌, ◌||◌}
 use mathlib.Core.List.{List, [], ◌∷◌, ◌++◌, append_assoc}
 use Prim.Native.Nat.{ℕ, zero, suc, ◌+◌, ◌-◌, ◌*◌, ◌/◌, ◌%◌, ◌<◌, ◌≤◌, ◌^◌}
 use native.Mathlib.Omega.{arith}
@@ -10,10 +10,10 @@ use lib.Dec.{T, eqb, ltb, lit<}
 use lib.ListN.{length, get_or, set, drop, take, replicate, length-append, length-drop, length-replicate, take-append-drop}
 use lib.Seq.{drop-drop, get_or-drop, length-take-le}
 use lib.Ieee.{Float, binary32, to_bits, of_bits}
+use Rattle.laws.specs.Types.{regime_from}
 use Rattle.laws.specs.declared.types.FlightRegime.{FlightRegime}
-use Rattle.laws.specs.declared.types.FlightRegime.TheVariants.{Copter, Plane}
 use Rattle.fields.specs.Bytes.{number_at, bytes_of, has_bytes, put_at}
-use Rattle.fields.specs.Fields.{Field, ones, place_after, stands, bit, named, size_of, values_at, values_as, is_written, bit_of, map_of, body_of, number_fields}
+use Rattle.fields.specs.Fields.{Field, ones, place_after, stands, bit, named, size_of, values_at, values_as, map_of, body_of, number_fields}
 use Rattle.fields.specs.Numbers.{floats_of, bits_of}
 use Rattle.fields.proofs.NumberLaw.{bytes_long}
 use Rattle.fields.proofs.MapLaw.{bits_length, bits_joined, bits_drop}
@@ -31,11 +31,10 @@ use Rattle.refusals.specs.declared.Refusal.{Refusal}
 use Rattle.refusals.specs.declared.Refusal.TheVariants as refusal
 use Rattle.records.specs.declared.call.ReadCall.{ReadCall}
 use Rattle.std.specs.Int.{from_bool}
-use Rattle.std.specs.Prelude.{Some, None, Ok, Err, Option, Result, MatchResult, ok_or}
-use Rattle.std.specs.Result.{IsErrAnd}
+use Rattle.std.specs.Prelude.{Ok, Err, Result, MatchResult}
+use Rattle.std.specs.Result.{IsErrAnd, is_err}
 use native.Mathlib.Numerals.{add-one}
 use Rattle.std.proofs.lemmas.List.{take-replicate, set_split}
-use Rattle.std.proofs.lemmas.Option.{none-some, slice_get_cases}
 use Rattle.records.specs.Call as spec
 use Rattle.records.specs.Call.{
   call_fields,
@@ -56,7 +55,7 @@ use Rattle.records.specs.Call.{
   call_record,
 }
 use Rattle.records.proofs.ConfigLaw.{exit_is}
-use Rattle.records.specs.Code.Steps.{regime_from, regime_at, floats_at, call_from, byte_of}
+use Rattle.records.specs.Code.Steps.{regime_read, regime_at, floats_at, call_from, map_with, record_of, bytes_of_record, byte_of}
 
 pub fields_long : length call_fields ≡ 22
 unfolding call_fields number_fields
@@ -121,27 +120,60 @@ module _ (n : ℕ) (all : n ≤ 20) (m : ℕ) (h : m < 2 ^ n) where
 
 -- ---- kinds and regimes
 
-pub kind_is : (n : ℕ) (k : Kind) → kind_of n ≡ Some k → (n ≤ 6) × (number_of k ≡ n)
-kind_is zero k e = let p : kind.Prime ≡ k = cc in rw (← p) (omega arith, refl)
-kind_is (suc zero) k e = let p : kind.Attitude ≡ k = cc in rw (← p) (omega arith, refl)
-kind_is (suc (suc zero)) k e = let p : kind.Rate ≡ k = cc in rw (← p) (omega arith, refl)
-kind_is (suc (suc (suc zero))) k e = let p : kind.Waypoint ≡ k = cc in rw (← p) (omega arith, refl)
-kind_is (suc (suc (suc (suc zero)))) k e = let p : kind.AbsoluteAttitude ≡ k = cc in rw (← p) (omega arith, refl)
-kind_is (suc (suc (suc (suc (suc zero))))) k e = let p : kind.Land ≡ k = cc in rw (← p) (omega arith, refl)
-kind_is (suc (suc (suc (suc (suc (suc zero)))))) k e = let p : kind.AbsoluteRate ≡ k = cc in rw (← p) (omega arith, refl)
-kind_is (suc (suc (suc (suc (suc (suc (suc n))))))) k e = absurd (none-some k e)
+-- the kind of a number, or none above 6
+kind_cases : (n : ℕ) → MatchResult (kind_of n) (λ k. (n ≤ 6) × (number_of k ≡ n)) (λ d. (6 < n) × (d ≡ refusal.UnknownKind))
+kind_cases zero = (omega arith, refl)
+kind_cases (suc zero) = (omega arith, refl)
+kind_cases (suc (suc zero)) = (omega arith, refl)
+kind_cases (suc (suc (suc zero))) = (omega arith, refl)
+kind_cases (suc (suc (suc (suc zero)))) = (omega arith, refl)
+kind_cases (suc (suc (suc (suc (suc zero))))) = (omega arith, refl)
+kind_cases (suc (suc (suc (suc (suc (suc zero)))))) = (omega arith, refl)
+kind_cases (suc (suc (suc (suc (suc (suc (suc n))))))) = (omega arith, refl)
 
-kind_none : (n : ℕ) → kind_of n ≡ None → 6 < n
-kind_none n e = grind (arith, slice_get_cases kinds n)
-
-regime_is : (n : ℕ) (r : FlightRegime) → regime_from n ≡ Some r → (n ≤ 1) × (regime_of n ≡ r)
+-- the regime of a number, or none above 1
+regime_cases : (n : ℕ) → MatchResult (regime_read n) (λ r. (n ≤ 1) × (regime_of n ≡ r)) (λ d. (1 < n) × (d ≡ refusal.UnknownKind))
 unfolding regime_of
-regime_is zero r e = (omega arith, cc)
-regime_is (suc zero) r e = (omega arith, cc)
-regime_is (suc (suc n)) r e = absurd (none-some r e)
+regime_cases zero = (omega arith, refl)
+regime_cases (suc zero) = (omega arith, refl)
+regime_cases (suc (suc n)) =
+    let none : eqb (suc (suc n)) 0 ≡ false = ne_eqb (suc (suc n)) 0 (λ e. omega arith) in
+    let one : eqb (suc (suc n)) 1 ≡ false = ne_eqb (suc (suc n)) 1 (λ e. omega arith) in
+    rw (none, one) (omega arith, refl)
 
-regime_none : (n : ℕ) → regime_from n ≡ None → 1 < n
-regime_none n e = grind (arith, slice_get_cases (Copter ∷ Plane ∷ []) n)
+-- a number above 6 is no kind's, and one above 1 no regime's
+pub kind_unknown : (n : ℕ) → is_err (kind_of n) ≡ ltb 6 n
+kind_unknown n = go (kind_of n) (kind_cases n)
+  where
+    go : (a : Result Kind Refusal) → MatchResult a (λ k. (n ≤ 6) × (number_of k ≡ n)) (λ d. (6 < n) × (d ≡ refusal.UnknownKind)) → is_err a ≡ ltb 6 n
+    go (Ok k) i = sym (le-ltb 6 n i.0)
+    go (Err d) i = sym (lt-ltb 6 n i.0)
+
+pub regime_unknown : (n : ℕ) → is_err (regime_from n) ≡ ltb 1 n
+regime_unknown zero = refl
+regime_unknown (suc zero) = refl
+regime_unknown (suc (suc n)) =
+    let none : eqb (suc (suc n)) 0 ≡ false = ne_eqb (suc (suc n)) 0 (λ e. omega arith) in
+    let one : eqb (suc (suc n)) 1 ≡ false = ne_eqb (suc (suc n)) 1 (λ e. omega arith) in
+    rw (none, one, lt-ltb 1 (suc (suc n)) (omega arith))
+
+-- what is read by the names of a kind and a regime
+abbrev pub by_names : Result Kind Refusal → Result FlightRegime Refusal → (Kind → FlightRegime → ReadCall) → Result ReadCall Refusal
+by_names (Ok k) (Ok g) f = Ok (f k g)
+by_names (Ok k) (Err d) f = Err d
+by_names (Err d) g f = Err d
+
+names_are : (k g : ℕ) (f : ℕ → FlightRegime → ReadCall)
+    → cond (unknown k g) (Err refusal.UnknownKind) (Ok (f k (regime_of g))) ≡ by_names (kind_of k) (regime_read g) (λ kind. f (number_of kind))
+unfolding unknown
+names_are k g f = go (kind_of k) (kind_cases k) (regime_read g) (regime_cases g)
+  where
+    go : (a : Result Kind Refusal) → MatchResult a (λ kind. (k ≤ 6) × (number_of kind ≡ k)) (λ d. (6 < k) × (d ≡ refusal.UnknownKind))
+        → (b : Result FlightRegime Refusal) → MatchResult b (λ r. (g ≤ 1) × (regime_of g ≡ r)) (λ d. (1 < g) × (d ≡ refusal.UnknownKind))
+        → cond (ltb 6 k || ltb 1 g) (Err refusal.UnknownKind) (Ok (f k (regime_of g))) ≡ by_names a b (λ kind. f (number_of kind))
+    go (Err d) n b w = rw (lt-ltb 6 k n.0, n.1)
+    go (Ok kind) i (Err d) n = rw (le-ltb 6 k i.0, lt-ltb 1 g n.0, n.1)
+    go (Ok kind) i (Ok r) j = rw (le-ltb 6 k i.0, le-ltb 1 g j.0, i.1, j.1)
 
 -- ---- the values of a record whose kind stands
 
@@ -202,14 +234,18 @@ pub complete_gives : (m : ℕ) → complete m ≡ true → (stands m ≡ true) �
 unfolding complete
 complete_gives m e = let r = both (named call_fields m) (stands m) (eqb (m / 2 ^ 9 % 2) (m / 2 ^ 10 % 2)) e in (r.0, eqb-true _ _ r.1)
 
+-- r has a record's bytes, at a place in s; m is its map, and n its fields' byte count
+pub record IsFound (s : List ℕ) (at m n : ℕ) (r : List ℕ) : Type 0 where
+  pub room : at + (5 + m / 2 % 2 + 4 * ones 20 (m / 4)) ≤ length s
+  pub room_in_record : 5 + m / 2 % 2 + 4 * ones 20 (m / 4) ≤ length r
+  pub answer : read_call s at
+      ≡ by_names (kind_of (get_or r 4 0)) (regime_read (regime_at r m))
+      (λ kind regime. call_from s (record { map = m; kind = kind; regime = regime; numbers = at + (5 + m / 2 % 2); next = at + (4 + n) }))
+
 -- the exit of a `?`: r is what is returned, d the refusal and x what the reader answers
 pub refused : (r : Result Head Refusal) (P : Head → Type 0) {x : Result ReadCall Refusal} {d e : Refusal}
     → x ≡ Err e → d ≡ e → IsErrAnd r (λ y. y ≡ d) → MatchResult r P (λ y. x ≡ Err y)
 refused r P ex ed h = rw (exit_is r h ed) ex
-
-pub missing_err : {A : Type 0} (o : Option A) (d e : Refusal) → Err d ≡ ok_or o e → d ≡ e
-missing_err None d e h = cc
-missing_err (Some x) d e h = absurd cc
 
 pub cut : (s : List ℕ) (at : ℕ) → has_bytes s at 4 ≡ false → read_call s at ≡ Err refusal.TooFewBytes
 unfolding read_call
@@ -235,11 +271,8 @@ module _ (s : List ℕ) (at : ℕ) (h : has_bytes s at 4 ≡ true) (t : List ℕ
 
     -- r has the record's bytes
     module _ (l : has_bytes s at (4 + n) ≡ true) (r : List ℕ) (er : r ≡ drop at s) where
-      pub room : at + (5 + m / 2 % 2 + 4 * ones 20 (m / 4)) ≤ length s
+      room : at + (5 + m / 2 % 2 + 4 * ones 20 (m / 4)) ≤ length s
       room = omega (arith, leb-true _ _ l, en, size_is m, eqb-true (m % 2) 1 given.0)
-
-      pub room_in_record : 5 + m / 2 % 2 + 4 * ones 20 (m / 4) ≤ length r
-      room_in_record = rw (er, length-drop at s) (omega (arith, room))
 
       by_bytes : read_call s at
           ≡ cond (unknown (get_or r 4 0) (regime_at r m)) (Err refusal.UnknownKind)
@@ -247,94 +280,43 @@ module _ (s : List ℕ) (at : ℕ) (h : has_bytes s at 4 ≡ true) (t : List ℕ
       unfolding read_call
       by_bytes = rw (h, map_is_read, ← eb, q, ← en, l, ← drop-drop 4 at s, values_are (drop at s) m given.0, drop-drop (5 + m / 2 % 2) at s, er)
 
-      -- k and g are the kind and the regime, if there are any
-      module _ (k : Option Kind) (ek : k ≡ kind_of (get_or r 4 0)) where
-        pub no_kind : k ≡ None → read_call s at ≡ Err refusal.UnknownKind
-        unfolding unknown
-        no_kind z = by_bytes ∙ rw (lt-ltb 6 (get_or r 4 0) (kind_none _ (sym ek ∙ z)))
-
-        module _ (kind : Kind) (ak : k ≡ Some kind) (g : Option FlightRegime) (eg : g ≡ regime_from (regime_at r m)) where
-          kind_below : (get_or r 4 0 ≤ 6) × (number_of kind ≡ get_or r 4 0)
-          kind_below = kind_is _ kind (sym ek ∙ ak)
-
-          pub no_regime : g ≡ None → read_call s at ≡ Err refusal.UnknownKind
-          unfolding unknown
-          no_regime z = by_bytes ∙ rw (le-ltb 6 (get_or r 4 0) kind_below.0, lt-ltb 1 (regime_at r m) (regime_none _ (sym eg ∙ z)))
-
-          pub whole : (regime : FlightRegime) → g ≡ Some regime → (i : ℕ) → i ≡ at + (5 + m / 2 % 2)
-              → (read_call s at ≡ Ok (call_from s (record { map = m; kind = kind; regime = regime; numbers = i; next = at + (4 + n) })))
-              × (place_after i 20 (m / 4) ≤ length s)
-          unfolding unknown
-          whole regime ag i ei =
-              let below = regime_is _ regime (sym eg ∙ ag) in (
-                by_bytes ∙ rw (le-ltb 6 (get_or r 4 0) kind_below.0, le-ltb 1 (regime_at r m) below.0, below.1, kind_below.1, ei),
-                omega (arith, room, ei),
-              )
+      pub found : IsFound s at m n r
+      found = record {
+        room = room;
+        room_in_record = rw (er, length-drop at s) (omega (arith, room));
+        answer =
+            by_bytes
+            ∙ names_are (get_or r 4 0) (regime_at r m)
+            (λ k g. record { call = call_at k g m (floats_at s (at + (5 + m / 2 % 2)) (m / 4)); next = at + (4 + n) });
+      }
 
 -- ---- writing
 
-pub parts_long : (c : Call) → length (parts_of c).numbers ≡ 20
+-- both lists of a call's parts
+pub parts_long : (c : Call) → (length (parts_of c).numbers ≡ 20) × (length (parts_of c).keeps ≡ 20)
 unfolding parts_of command_parts waypoint_parts
-parts_long Prime = refl
-parts_long (Attitude r dt c) = refl
-parts_long (Rate r dt c) = refl
-parts_long (Waypoint r dt c s cap) = refl
-parts_long (AbsoluteAttitude r dt c) = refl
-parts_long (Land r dt) = refl
-parts_long (AbsoluteRate r dt c) = refl
-
-regime_small : (r : FlightRegime) → regime_byte r ≤ 1
-regime_small Copter = omega arith
-regime_small Plane = omega arith
-
-pub regime_le : (c : Call) → (parts_of c).regime ≤ 1
-unfolding parts_of command_parts waypoint_parts
-regime_le Prime = omega arith
-regime_le (Attitude r dt c) = regime_small r
-regime_le (Rate r dt c) = regime_small r
-regime_le (Waypoint r dt c s cap) = regime_small r
-regime_le (AbsoluteAttitude r dt c) = regime_small r
-regime_le (Land r dt) = regime_small r
-regime_le (AbsoluteRate r dt c) = regime_small r
-
--- a regime byte that is at most 1 is written where it is 0
-pub copter_is : (g : ℕ) → g ≤ 1 → 1 - g ≡ bit_of (is_written false g 1)
-copter_is g h = go (eqb g 1) refl
-  where
-    go : (b : Bool) → eqb g 1 ≡ b → 1 - g ≡ bit_of (not b)
-    go true e = omega (arith, eqb-true g 1 e)
-    go false e = let n : g ≡ 1 → ⊥ = eqb-false g 1 e in omega arith
+parts_long Prime = (refl, refl)
+parts_long (Attitude r dt c) = (refl, refl)
+parts_long (Rate r dt c) = (refl, refl)
+parts_long (Waypoint r dt c s cap) = (refl, refl)
+parts_long (AbsoluteAttitude r dt c) = (refl, refl)
+parts_long (Land r dt) = (refl, refl)
+parts_long (AbsoluteRate r dt c) = (refl, refl)
 
 -- a call of another kind than a waypoint has five numbers, and keeps none
-command_numbers : (c : Call) → ((parts_of c).kind ≡ 3 → ⊥) → drop 5 (parts_of c).numbers ≡ replicate 15 spec.zero
+command_is : (c : Call) → ((parts_of c).kind ≡ kind.Waypoint → ⊥)
+    → (drop 5 (parts_of c).numbers ≡ replicate 15 spec.zero) × ((parts_of c).keeps ≡ replicate 20 false)
 unfolding parts_of command_parts waypoint_parts
-command_numbers Prime h = refl
-command_numbers (Attitude r dt c) h = refl
-command_numbers (Rate r dt c) h = refl
-command_numbers (Waypoint r dt c s cap) h = absurd (h refl)
-command_numbers (AbsoluteAttitude r dt c) h = refl
-command_numbers (Land r dt) h = refl
-command_numbers (AbsoluteRate r dt c) h = refl
+command_is Prime h = (refl, refl)
+command_is (Attitude r dt c) h = (refl, refl)
+command_is (Rate r dt c) h = (refl, refl)
+command_is (Waypoint r dt c s cap) h = absurd (h refl)
+command_is (AbsoluteAttitude r dt c) h = (refl, refl)
+command_is (Land r dt) h = (refl, refl)
+command_is (AbsoluteRate r dt c) h = (refl, refl)
 
-command_keeps : (c : Call) → ((parts_of c).kind ≡ 3 → ⊥) → (parts_of c).keeps ≡ replicate 20 false
-unfolding parts_of command_parts waypoint_parts
-command_keeps Prime h = refl
-command_keeps (Attitude r dt c) h = refl
-command_keeps (Rate r dt c) h = refl
-command_keeps (Waypoint r dt c s cap) h = absurd (h refl)
-command_keeps (AbsoluteAttitude r dt c) h = refl
-command_keeps (Land r dt) h = refl
-command_keeps (AbsoluteRate r dt c) h = refl
-
-module _ (c : Call) (p : Parts) (e : p ≡ parts_of c) (h : p.kind ≡ 3 → ⊥) where
-  no_waypoint : (parts_of c).kind ≡ 3 → ⊥
-  no_waypoint k = h (ap (λ (q : Parts). q.kind) e ∙ k)
-
-  pub numbers_front : drop 5 p.numbers ≡ replicate 15 spec.zero
-  numbers_front = ap (λ (q : Parts). drop 5 q.numbers) e ∙ command_numbers c no_waypoint
-
-  pub keeps_none : p.keeps ≡ replicate 20 false
-  keeps_none = ap (λ (q : Parts). q.keeps) e ∙ command_keeps c no_waypoint
+pub is_command : (c : Call) (p : Parts) → p ≡ parts_of c → (p.kind ≡ kind.Waypoint → ⊥) → (drop 5 p.numbers ≡ replicate 15 spec.zero) × (p.keeps ≡ replicate 20 false)
+is_command c p e h = rw e (command_is c (rw e at h))
 
 -- a list whose elements from the sixth on are fifteen
 pub front_long : {A : Type 0} (v : List A) (z : A) → drop 5 v ≡ replicate 15 z → length (take 5 v) ≡ 5
@@ -365,22 +347,7 @@ front_map v e =
     (ap (map_of Numbers (replicate 20 false)) (sym (take-append-drop 5 v))
     ∙ map_front (replicate 5 0) (replicate 15 0) (replicate 5 false) (replicate 15 false) (take 5 v) (drop 5 v) refl l (rw e map_zero)))
 
-pub map_is : (p : Parts) (v : List ℕ) (r : ℕ) → v ≡ bits_of p.numbers
-    → r ≡ 1 + 2 * (bit_of (is_written false p.regime 1) + 2 * map_of Numbers p.keeps v) → r ≡ map_of_parts p
-unfolding map_of_parts values_of map_of
-map_is p v r ev er = er ∙ rw (fields_are, ev)
-
 -- ---- the record of a call
-
-pub keeps_long : (c : Call) → length (parts_of c).keeps ≡ 20
-unfolding parts_of command_parts waypoint_parts
-keeps_long Prime = refl
-keeps_long (Attitude r dt c) = refl
-keeps_long (Rate r dt c) = refl
-keeps_long (Waypoint r dt c s cap) = refl
-keeps_long (AbsoluteAttitude r dt c) = refl
-keeps_long (Land r dt) = refl
-keeps_long (AbsoluteRate r dt c) = refl
 
 -- the flags, the values and the map of a call's fields
 abbrev pub Flags : Call → List Bool
@@ -393,11 +360,11 @@ abbrev pub Map : Call → ℕ
 Map c = map_of_parts (parts_of c)
 
 pub flags_long : (c : Call) → length (Flags c) ≡ length call_fields
-flags_long c = rw (keeps_long c, fields_long)
+flags_long c = rw ((parts_long c).1, fields_long)
 
 pub call_values_long : (c : Call) → length (Values c) ≡ length call_fields
 unfolding values_of
-call_values_long c = rw (bits_length (parts_of c).numbers, parts_long c, fields_long)
+call_values_long c = rw (bits_length (parts_of c).numbers, (parts_long c).0, fields_long)
 
 pub map_by_fields : (c : Call) → Map c ≡ map_of call_fields (Flags c) (Values c)
 unfolding map_of_parts
@@ -446,57 +413,50 @@ body_is m k g v l =
     rw (fields_are, quarter, body_missing (replicate 20 0) v (m / 4) (sym l))
 
 -- the bytes of `write_fields`: the map, the two bytes, the numbers
-module _ (p₀ p₁ p₂ p₃ p₄ : List ℕ) (m k g second third : ℕ) (v : List ℕ) (h : 4 + size_of call_fields m ≤ length p₀) (l : length v ≡ 20) where
-  pub fields_written : p₁ ≡ bytes_of 4 m ++ drop 4 p₀ → p₂ ≡ put_at p₁ 4 (byte_of m k) → second ≡ 4 + m % 2 → p₃ ≡ put_at p₂ second (byte_of (m / 2) g)
-      → third ≡ second + m / 2 % 2
-      → p₄ ≡ put_at p₃ third (body_of (number_fields v) (m / 4) v) → p₄ ≡ put_at p₀ 0 (bytes_of 4 m ++ body_of call_fields m (k ∷ g ∷ v))
+module _ (p₀ p₁ p₂ p₃ p₄ : List ℕ) (r : Record) (second third : ℕ) (h : 4 + size_of call_fields r.map ≤ length p₀) (l : length r.numbers ≡ 20) where
+  abbrev FieldKind : List ℕ
+  FieldKind = byte_of r.map (number_of r.kind)
+
+  abbrev FieldRegime : List ℕ
+  FieldRegime = byte_of (r.map / 2) (regime_byte r.regime)
+
+  abbrev Body : List ℕ
+  Body = body_of (number_fields r.numbers) (r.map / 4) r.numbers
+
+  pub fields_written : p₁ ≡ bytes_of 4 r.map ++ drop 4 p₀ → p₂ ≡ put_at p₁ 4 FieldKind → second ≡ 4 + r.map % 2 → p₃ ≡ put_at p₂ second FieldRegime
+      → third ≡ second + r.map / 2 % 2
+      → p₄ ≡ put_at p₃ third Body → p₄ ≡ put_at p₀ 0 (bytes_of_record r)
   fields_written e₁ e₂ es e₃ et e₄ =
+      let m = r.map in
+      let front = bytes_of 4 m in
       let room : 4 + m % 2 + m / 2 % 2 ≤ length p₀ = omega (arith, h, size_is m) in
-      let l₁ : length (bytes_of 4 m) ≡ 4 = bytes_long 4 m in
-      let l₂ : length (bytes_of 4 m ++ byte_of m k) ≡ 4 + m % 2 = length-append (bytes_of 4 m) (byte_of m k) ∙ rw (l₁, byte_long m k) in
-      let l₃ : length ((bytes_of 4 m ++ byte_of m k) ++ byte_of (m / 2) g) ≡ 4 + m % 2 + m / 2 % 2 =
-      length-append (bytes_of 4 m ++ byte_of m k) (byte_of (m / 2) g) ∙ rw (l₂, byte_long (m / 2) g) in
-      let q₁ : p₁ ≡ put_at p₀ 0 (bytes_of 4 m) = e₁ ∙ rw l₁ in
-      let q₂ : p₂ ≡ put_at p₀ 0 (bytes_of 4 m ++ byte_of m k) = put_next p₀ 0 4 (bytes_of 4 m) (byte_of m k) q₁ (omega (arith, l₁)) (omega arith) e₂ in
-      let q₃ : p₃ ≡ put_at p₀ 0 ((bytes_of 4 m ++ byte_of m k) ++ byte_of (m / 2) g) =
-      put_next p₀ 0 second (bytes_of 4 m ++ byte_of m k) (byte_of (m / 2) g) q₂ (omega (arith, l₂, es)) (omega (arith, es)) e₃ in
-      let q₄ : p₄ ≡ put_at p₀ 0 (((bytes_of 4 m ++ byte_of m k) ++ byte_of (m / 2) g) ++ body_of (number_fields v) (m / 4) v) =
-      put_next p₀ 0 third ((bytes_of 4 m ++ byte_of m k) ++ byte_of (m / 2) g) (body_of (number_fields v) (m / 4) v) q₃
-      (omega (arith, l₃, es, et)) (omega (arith, es, et)) e₄ in
-      let order : ((bytes_of 4 m ++ byte_of m k) ++ byte_of (m / 2) g) ++ body_of (number_fields v) (m / 4) v ≡ bytes_of 4 m ++ body_of call_fields m (k ∷ g ∷ v) =
-      append_assoc (bytes_of 4 m ++ byte_of m k) (byte_of (m / 2) g) _
-      ∙ append_assoc (bytes_of 4 m) (byte_of m k) _
-      ∙ ap (λ (x : List ℕ). bytes_of 4 m ++ x) (sym (body_is m k g v l)) in
+      let l₁ : length front ≡ 4 = bytes_long 4 m in
+      let l₂ : length (front ++ FieldKind) ≡ 4 + m % 2 = length-append front FieldKind ∙ rw (l₁, byte_long m (number_of r.kind)) in
+      let l₃ : length ((front ++ FieldKind) ++ FieldRegime) ≡ 4 + m % 2 + m / 2 % 2 =
+      length-append (front ++ FieldKind) FieldRegime ∙ rw (l₂, byte_long (m / 2) (regime_byte r.regime)) in
+      let q₁ : p₁ ≡ put_at p₀ 0 front = e₁ ∙ rw l₁ in
+      let q₂ : p₂ ≡ put_at p₀ 0 (front ++ FieldKind) = put_next p₀ 0 4 front FieldKind q₁ (omega (arith, l₁)) (omega arith) e₂ in
+      let q₃ : p₃ ≡ put_at p₀ 0 ((front ++ FieldKind) ++ FieldRegime) =
+      put_next p₀ 0 second (front ++ FieldKind) FieldRegime q₂ (omega (arith, l₂, es)) (omega (arith, es)) e₃ in
+      let q₄ : p₄ ≡ put_at p₀ 0 (((front ++ FieldKind) ++ FieldRegime) ++ Body) =
+      put_next p₀ 0 third ((front ++ FieldKind) ++ FieldRegime) Body q₃ (omega (arith, l₃, es, et)) (omega (arith, es, et)) e₄ in
+      let order : ((front ++ FieldKind) ++ FieldRegime) ++ Body ≡ bytes_of_record r =
+      append_assoc (front ++ FieldKind) FieldRegime _
+      ∙ append_assoc front FieldKind _
+      ∙ ap (λ (x : List ℕ). front ++ x) (sym (body_is m (number_of r.kind) (regime_byte r.regime) r.numbers l)) in
       q₄ ∙ ap (put_at p₀ 0) order
 
--- the map of a record and its values are the call's
-abbrev pub IsRecord : Call → Record → Type 0
-IsRecord c r = (r.map ≡ map_of_parts (parts_of c)) × (r.kind ≡ (parts_of c).kind) × (r.regime ≡ (parts_of c).regime) × (r.numbers ≡ bits_of (parts_of c).numbers)
-
-pub is_record : (c : Call) (p : Parts) (v : List ℕ) (m : ℕ) → p ≡ parts_of c → v ≡ bits_of p.numbers
-    → m ≡ 1 + 2 * (bit_of (is_written false p.regime 1) + 2 * map_of Numbers p.keeps v)
-    → IsRecord c (record { map = m; kind = p.kind; regime = p.regime; numbers = v })
-is_record c p v m ep ev em = (
-  map_is p v m ev em ∙ ap map_of_parts ep,
-  ap (λ (q : Parts). q.kind) ep,
-  ap (λ (q : Parts). q.regime) ep,
-  ev ∙ ap (λ (q : Parts). bits_of q.numbers) ep,
-)
-
-pub is_command : (c : Call) (p : Parts) (v : List ℕ) (m : ℕ) → p ≡ parts_of c → (p.kind ≡ 3 → ⊥) → v ≡ bits_of p.numbers
-    → m ≡ 1 + 2 * (bit_of (is_written false p.regime 1) + 2 * map_of Numbers (replicate 20 false) v)
-    → IsRecord c (record { map = m; kind = p.kind; regime = p.regime; numbers = v })
-is_command c p v m ep h ev em = is_record c p v m ep ev (em ∙ sym (rw (keeps_none c p ep h)))
+-- the map of a record is made of its parts
+pub map_is : (p : Parts) (v : List ℕ) (m : ℕ) → v ≡ bits_of p.numbers → m ≡ map_with p.regime (map_of Numbers p.keeps v)
+    → record { map = m; kind = p.kind; regime = p.regime; numbers = v } ≡ record_of p
+unfolding map_of_parts values_of map_of
+map_is p v m ev em = rw (em, fields_are, ev)
 
 -- what is written is the call's record
-module _ (c : Call) (r : Record) (e : IsRecord c r) where
-  pub record_is : bytes_of 4 r.map ++ body_of call_fields r.map (r.kind ∷ r.regime ∷ r.numbers) ≡ call_record c
+module _ (c : Call) (r : Record) (e : r ≡ record_of (parts_of c)) where
+  pub record_is : bytes_of_record r ≡ call_record c
   unfolding call_record values_of
-  record_is = rw (e.0, e.1, e.2, e.3)
+  record_is = rw e
 
   pub record_long : (n : ℕ) → n ≡ size_of call_fields r.map → 4 + n ≡ length (call_record c)
-  record_long n en =
-      let values = r.kind ∷ r.regime ∷ r.numbers in
-      let long : length values ≡ length call_fields = rw (e.3, bits_length (parts_of c).numbers, parts_long c, fields_long) in
-      let body : length (body_of call_fields r.map values) ≡ size_of call_fields r.map = body_long call_fields values r.map long in
-      sym (ap length (sym record_is) ∙ length-append (bytes_of 4 r.map) (body_of call_fields r.map values) ∙ omega (arith, bytes_long 4 r.map, body))
+  record_long n en = rw (en, e) (sym (call_long c))

@@ -1,5 +1,5 @@
 -- Call record: "4-byte map, low byte first, then fields by bit". Definitions only.
-use Rattle.std.specs.Prelude.{Bool, true, false, cond, is_some, unwrap_or, slice_get, not, ◌&&◌, ◌||◌, List, [], ◌∷◌, ◌++◌, ℕ, ◌+◌, ◌-◌, ◌/◌, ◌%◌, ◌^◌, eqb, ltb, drop, get_or, replicate, Float, Option, Result, Ok, Err}
+use Rattle.std.specs.Prelude.{Bool, true, false, cond, is_some, unwrap_or, ok_or, slice_get, not, ◌&&◌, ◌||◌, List, [], ◌∷◌, ◌++◌, ℕ, ◌+◌, ◌-◌, ◌/◌, ◌%◌, ◌^◌, eqb, ltb, drop, get_or, replicate, Float, Option, Result, Ok, Err}
 use Rattle.std.specs.Float.{nan, binary32}
 use Rattle.std.specs.Float.Ieee.{of_bits}
 use Rattle.std.specs.Bool.{then_some}
@@ -38,9 +38,9 @@ call_fields = record { bytes = 1; missing = 0 } ∷ record { bytes = 1; missing 
 abbrev pub kinds : List Kind
 kinds = kind.Prime ∷ kind.Attitude ∷ kind.Rate ∷ kind.Waypoint ∷ kind.AbsoluteAttitude ∷ kind.Land ∷ kind.AbsoluteRate ∷ []
 
--- the kind of a number, if there is one
-abbrev pub kind_of : ℕ → Option Kind
-kind_of n = slice_get kinds n
+-- the kind of a number
+abbrev pub kind_of : ℕ → Result Kind Refusal
+kind_of n = ok_or (slice_get kinds n) refusal.UnknownKind
 
 abbrev pub number_of : Kind → ℕ
 number_of kind.Prime = 0
@@ -158,20 +158,20 @@ leg_east leg = option_map_or (λ l. l.y) leg zero
 abbrev pub has_leg : Option Vec2 → Bool
 has_leg leg = is_some leg
 
--- What a record has of a call: the two bytes, the numbers of bits 2 to 21, and which of these are written whatever
+-- What a record has of a call: the kind, the regime, the numbers of bits 2 to 21, and which of these are written whatever
 -- their values. A number that its kind doesn't use is +0, what missing would give, and so is never written.
-unfoldable pub command_parts : ℕ → ℕ → Float → Float → Float → Float → Float → Parts
-command_parts kind regime dt a b c d = record {
-  kind = kind;
+unfoldable pub command_parts : Kind → FlightRegime → Float → List Float → Parts
+command_parts k regime dt command = record {
+  kind = k;
   regime = regime;
-  numbers = dt ∷ a ∷ b ∷ c ∷ d ∷ replicate 15 zero;
+  numbers = dt ∷ command ++ replicate 15 zero;
   keeps = replicate 20 false;
 }
 
 -- a leg, an airspeed and a cap that are present are written whatever their values
-unfoldable pub waypoint_parts : ℕ → Float → WaypointCommand → VehicleState → Option Float → Parts
+unfoldable pub waypoint_parts : FlightRegime → Float → WaypointCommand → VehicleState → Option Float → Parts
 waypoint_parts regime dt c s cap = record {
-  kind = 3;
+  kind = kind.Waypoint;
   regime = regime;
   numbers =
       dt ∷ zero ∷ zero ∷ zero ∷ zero ∷
@@ -187,17 +187,17 @@ waypoint_parts regime dt c s cap = record {
 
 -- a prime has no regime: what missing would give
 unfoldable pub parts_of : Call → Parts
-parts_of Prime = command_parts 0 1 zero zero zero zero zero
-parts_of (Attitude r dt c) = command_parts 1 (regime_byte r) dt c.roll c.pitch c.throttle zero
-parts_of (Rate r dt c) = command_parts 2 (regime_byte r) dt c.roll_rate c.pitch_rate c.yaw_rate c.throttle
-parts_of (Waypoint r dt c s cap) = waypoint_parts (regime_byte r) dt c s cap
-parts_of (AbsoluteAttitude r dt c) = command_parts 4 (regime_byte r) dt c.roll_rad c.pitch_rad c.thrust zero
-parts_of (Land r dt) = command_parts 5 (regime_byte r) dt zero zero zero zero
-parts_of (AbsoluteRate r dt c) = command_parts 6 (regime_byte r) dt c.roll_radps c.pitch_radps c.yaw_radps c.thrust
+parts_of Prime = command_parts kind.Prime Plane zero (zero ∷ zero ∷ zero ∷ zero ∷ [])
+parts_of (Attitude r dt c) = command_parts kind.Attitude r dt (c.roll ∷ c.pitch ∷ c.throttle ∷ zero ∷ [])
+parts_of (Rate r dt c) = command_parts kind.Rate r dt (c.roll_rate ∷ c.pitch_rate ∷ c.yaw_rate ∷ c.throttle ∷ [])
+parts_of (Waypoint r dt c s cap) = waypoint_parts r dt c s cap
+parts_of (AbsoluteAttitude r dt c) = command_parts kind.AbsoluteAttitude r dt (c.roll_rad ∷ c.pitch_rad ∷ c.thrust ∷ zero ∷ [])
+parts_of (Land r dt) = command_parts kind.Land r dt (zero ∷ zero ∷ zero ∷ zero ∷ [])
+parts_of (AbsoluteRate r dt c) = command_parts kind.AbsoluteRate r dt (c.roll_radps ∷ c.pitch_radps ∷ c.yaw_radps ∷ c.thrust ∷ [])
 
 -- the values of bits 0 to 21
 unfoldable pub values_of : Parts → List ℕ
-values_of p = p.kind ∷ p.regime ∷ bits_of p.numbers
+values_of p = number_of p.kind ∷ regime_byte p.regime ∷ bits_of p.numbers
 
 -- the map; the kind is always written
 unfoldable pub map_of_parts : Parts → ℕ

@@ -2,12 +2,12 @@
 ghost use Rattle.std.specs.Prelude.{◌≡◌, ◌≤◌, ◌<◌, ◌+◌, ◌*◌, ◌/◌, ◌%◌, ◌^◌, length, MatchResult, Ok, Err};
 ghost use Rattle.fields.specs.Fields.{bit, place_after, size_of};
 ghost use Rattle.records.specs.Call as spec;
-ghost use Rattle.records.specs.Code.Steps.{regime_from, regime_at, floats_at, call_from};
+ghost use Rattle.records.specs.Code.Steps.{regime_read, regime_at, floats_at, call_from};
 
-use crate::part::bytes_from;
 use arithmetic::vector::Vec2;
 use fields::bytes::read_word;
 use fields::numbers::read_group;
+use fields::part::bytes_from;
 use fields::{count, read_values};
 use laws::types::{
     AbsoluteAttitudeCommand, AbsoluteRateCommand, AttitudeCommand, FlightRegime, RateCommand, Vec3,
@@ -47,22 +47,27 @@ pub enum Kind {
     AbsoluteRate,
 }
 
-impl Kind {
-    pub fn from_number(n: u32) -> Option<Kind>
-        ensures { result ≡ spec.kind_of n }
-    {
-        match n {
-            0 => Some(Kind::Prime),
-            1 => Some(Kind::Attitude),
-            2 => Some(Kind::Rate),
-            3 => Some(Kind::Waypoint),
-            4 => Some(Kind::AbsoluteAttitude),
-            5 => Some(Kind::Land),
-            6 => Some(Kind::AbsoluteRate),
-            _ => None,
+impl TryFrom<u32> for Kind {
+    type Error = Refusal;
+
+    ghost try_from_gives = { λ number r. r ≡ spec.kind_of number };
+
+    fn try_from(number: u32) -> Result<Kind, Refusal> {
+        match number {
+            0 => Ok(Kind::Prime),
+            1 => Ok(Kind::Attitude),
+            2 => Ok(Kind::Rate),
+            3 => Ok(Kind::Waypoint),
+            4 => Ok(Kind::AbsoluteAttitude),
+            5 => Ok(Kind::Land),
+            6 => Ok(Kind::AbsoluteRate),
+            _ => Err(Refusal::UnknownKind),
         }
     }
+}
 
+impl Kind {
+    // No From, as for `Refusal::number`: `into()` does not say that the number is meant.
     pub fn number(self) -> u8
         ensures { result ≡ spec.number_of self }
     {
@@ -70,7 +75,7 @@ impl Kind {
     }
 }
 
-// A call by its kind, with what the kind uses.
+// A call by its kind, with what the kind uses. Fields and no `GuideCall`: records know no guidance.
 #[derive(Clone, Copy)]
 pub enum Call {
     Prime,
@@ -107,7 +112,7 @@ pub enum Call {
     },
 }
 
-// A call that was read, and the place after its record.
+// A call that was read, and the place after its record. Not one generic struct with `ReadConfig`: the field's name says what was read.
 #[derive(Clone, Copy)]
 pub struct ReadCall {
     pub call: Call,
@@ -139,29 +144,19 @@ pub fn fields_size(map: u64) -> usize
         + 4 * count(map / FIRST_NUMBER % ALL_NUMBERS)
 }
 
-fn regime_of(byte: u8) -> Option<FlightRegime>
-    ensures { result ≡ regime_from byte }
-{
-    match byte {
-        0 => Some(FlightRegime::Copter),
-        1 => Some(FlightRegime::Plane),
-        _ => None,
-    }
-}
-
 // The regime of a record, whose byte is missing where it is plane.
-fn read_regime(bytes: &[u8], map: u64) -> Option<FlightRegime>
+fn read_regime(bytes: &[u8], map: u64) -> Result<FlightRegime, Refusal>
     requires { 5 + map / 2 % 2 ≤ length bytes.now }
-    ensures { result ≡ regime_from (regime_at bytes.now map) }
+    ensures { result ≡ regime_read (regime_at bytes.now map) }
 {
-    if stands(map, REGIME) {
-        regime_of(bytes[5])
-    } else {
-        Some(FlightRegime::Plane)
+    if !stands(map, REGIME) {
+        return Ok(FlightRegime::Plane);
     }
+    FlightRegime::try_from(u32::from(bytes[5])).map_err(|_| Refusal::UnknownKind)
 }
 
-// What a record says besides its numbers, the place of these, and the place after the record.
+// What a record says besides its numbers, the place of these, and the place after the record. A place and no slice of the numbers: the
+// contract says what is read of s, and of a slice it would have to say where in s it begins.
 #[derive(Clone, Copy)]
 struct Head {
     map: u64,
@@ -185,8 +180,8 @@ fn read_head(s: &[u8], at: usize) -> Result<Head, Refusal>
     }
     let size = 4 + fields_size(map);
     let record = bytes_from(s, at, size)?;
-    let kind = Kind::from_number(u32::from(record[4])).ok_or(Refusal::UnknownKind)?;
-    let regime = read_regime(record, map).ok_or(Refusal::UnknownKind)?;
+    let kind = Kind::try_from(u32::from(record[4]))?;
+    let regime = read_regime(record, map)?;
     Ok(Head {
         map,
         kind,
@@ -290,9 +285,6 @@ impl Head {
     }
 }
 
-// As a rule a call that is no waypoint has no number after bit 6, and a prime or a land none after bit 2: fewer bits to
-// test and fewer numbers to make.
-
 // Reads the first numbers of bits 2 to 21, where none after them stands.
 fn read_first<const N: usize>(s: &[u8], from: usize, map: u64) -> [f32; 20]
     requires { (N ≤ 20) × (map < 2 ^ N) × (place_after from 20 map ≤ length s.now) }
@@ -336,7 +328,9 @@ fn read_waypoint(s: &[u8], from: usize, map: u64) -> [f32; 20]
     v
 }
 
-// Reads the numbers of bits 2 to 21; map has them from its lowest bit on.
+// Reads the numbers of bits 2 to 21; map has them from its lowest bit on. As a rule a call that is no waypoint has no number after bit 6,
+// and a prime or a land none after bit 2: fewer bits to test and fewer numbers to make. Bytes, place and map go in apart, as in fields'
+// `read_values`.
 fn read_numbers(s: &[u8], from: usize, map: u64) -> [f32; 20]
     requires { place_after from 20 map ≤ length s.now }
     ensures { result ≡ floats_at s.now from map }

@@ -7,9 +7,9 @@ ghost use Rattle.fields.specs.Numbers.{floats_of, bits_of};
 ghost use Rattle.records.specs.Config.{config_fields, read_config, config_record};
 ghost use Rattle.fields.specs.Writing.{answer_of, buffer_of};
 
-use crate::part::bytes_from;
 use config_numbers::{bits_of, config_of_bits, default_bits};
-use fields::bytes::{has_bytes, read_number, write_number};
+use fields::bytes::{read_number, write_number};
+use fields::part::{bytes_from, check_room};
 use fields::{changed, count, read_values, write_values};
 use laws::config::PlaneGuidanceConfig;
 use refusals::Refusal;
@@ -56,9 +56,7 @@ pub fn write_config(out: &mut [u8], at: usize, c: PlaneGuidanceConfig) -> Result
     let v = bits_of(c);
     let map = config_map(v);
     let size = 5 + 4 * count(map);
-    if !has_bytes(out, at, size) {
-        return Err(Refusal::TooLittleRoom);
-    }
+    check_room(out, at, size)?;
     write_fields(&mut out[at..], map, &v);
     Ok(at + size)
 }

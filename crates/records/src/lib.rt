@@ -4,4 +4,3 @@
 pub mod call;
 pub mod call_writer;
 pub mod config;
-pub mod part;

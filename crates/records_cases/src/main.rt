@@ -2,13 +2,13 @@
 // gives for the same entries: tools/vectors/records.py makes both files and says what an entry is.
 #![tactic(auto)]
 
-use case_rows::read_full;
+use reading::read_full;
 use records::call::read_call;
 use records::call_writer::write_call;
 use records::config::{read_config, write_config};
 use refusals::Refusal;
+use std::io;
 use std::io::Read;
-use std::{fs, io};
 
 // What stands in a buffer before a record is written.
 const FILL: u8 = 165;
@@ -76,6 +76,7 @@ fn try_entry<R: Print, F: Read>(rt: &R, file: &mut F, number: u32) -> io::Result
     let mut out = [FILL; 256];
     let out = &mut out[..usize::from(room)];
     print!(rt; "{number}")?;
+    // The kind of record is the entry's byte.
     if kind == 0 {
         let read = |s: &[u8], at: usize| read_call(s, at).map(|read| (read.call, read.next));
         try_record(rt, s, place(from), out, place(to), read, write_call)?;
@@ -88,13 +89,8 @@ fn try_entry<R: Print, F: Read>(rt: &R, file: &mut F, number: u32) -> io::Result
 }
 
 fn main(rt: HostRuntime) -> io::Result<()> {
-    let path = "entries";
-    let mut file = match fs::open(&rt, path) {
-        Ok(file) => file,
-        Err(e) => {
-            eprintln!(rt; "{path}: {e}")?;
-            return Ok(());
-        }
+    let Some(mut file) = case_rows::open(&rt, "entries")? else {
+        return Ok(());
     };
     // A proved loop has to end: the entries are fewer.
     for number in 1..100_000 {

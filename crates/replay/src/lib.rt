@@ -40,7 +40,7 @@ fn start(s: &[u8]) -> Result<CallLines, Line>
     })
 }
 
-// Prints lines one after another, and answers how many bytes they have.
+// Prints lines one after another, and answers how many bytes they have. The place is carried: how long a line is shows when it is put.
 fn print_lines(lines: CallLines, out: &mut [u8]) -> usize
     requires { length (lines_text (lines_left lines)) ≤ length out.old }
     ensures { Puts (lines_text (lines_left lines.entry)) out.old out.new result }

@@ -95,6 +95,7 @@ fn setpoint_line(number: u32, first: Word, second: Option<Word>, values: Values)
     }
 }
 
+// No From, here and below: neither the setpoint, the laws nor `Word` is of this crate.
 fn kind_word(setpoint: Setpoint) -> Word
     ensures { result ≡ spec.kind_word setpoint }
 {
@@ -150,8 +151,8 @@ fn reply_line(number: u32, reply: Reply) -> Line
     ensures { result ≡ spec.reply_line number (as_reply reply) }
 {
     match reply {
-        Reply::Answered(answer) => answer_line(number, answer),
-        Reply::Primed => prime_line(number),
+        Some(answer) => answer_line(number, answer),
+        None => prime_line(number),
     }
 }
 

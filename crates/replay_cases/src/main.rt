@@ -2,10 +2,10 @@
 // Each is replayed into a buffer with room to spare, into one that its text just fills, and into one that is a byte short.
 #![tactic(auto)]
 
-ghost use Rattle.std.specs.Prelude.{◌≡◌, ◌≤◌, ◌+◌, length, IfOk};
-ghost use Rattle.replay.specs.Sizes.{decisive, text_room};
+ghost use Rattle.std.specs.Prelude.{◌≤◌, length, IfOk};
 
-use case_rows::read_full;
+use input::input_room;
+use reading::read_full;
 use refusals::Refusal;
 use std::rt::Files;
 use std::{fs, io};
@@ -80,23 +80,8 @@ const CASES: [Case; 38] = [
 // What stands in a buffer before a replay.
 const FILL: u8 = 165;
 
-// As much of a recording as the desk program reads: 137 bytes of configuration, 4,096 calls of 86 bytes and one byte more.
-const RECORDING_ROOM: usize = 137 + 4096 * 86 + 1;
-
 // Room for every text, and a byte to spare.
 const TEXT_ROOM: usize = replay::TEXT_ROOM + 1;
-
-fn recording_room() -> [u8; RECORDING_ROOM]
-    ensures { decisive ≡ length result }
-{
-    [0u8; RECORDING_ROOM]
-}
-
-fn text_room() -> [u8; TEXT_ROOM]
-    ensures { text_room + 1 ≡ length result }
-{
-    [FILL; TEXT_ROOM]
-}
 
 // Whether every byte is as it was before the replay.
 fn is_kept(s: &[u8]) -> bool {
@@ -113,8 +98,9 @@ fn is_right(recording: &[u8], lines: &[u8], out: &mut [u8]) -> bool {
     }
 }
 
+// Recording and lines go in apart, here and beside: a struct would be made once and taken apart in each.
 fn fits(recording: &[u8], lines: &[u8], room: usize) -> bool {
-    let mut out = text_room();
+    let mut out = [FILL; TEXT_ROOM];
     room <= TEXT_ROOM && is_right(recording, lines, &mut out[..room])
 }
 
@@ -124,20 +110,20 @@ fn agrees(recording: &[u8], lines: &[u8]) -> bool {
     fits(recording, lines, TEXT_ROOM) && fits(recording, lines, n) && fits(recording, lines, short)
 }
 
-// Reads a file to its end; one that is missing has no bytes.
+// Reads a file to its end. One that is missing has no bytes; to agree it is a read that failed.
 fn read_file<R: Files>(rt: &R, path: &str, room: &mut [u8]) -> io::Result<usize>
     ensures { IfOk result (λ n. n ≤ length room.old) }
 {
     match fs::open(rt, path) {
-        Ok(mut file) => read_full(&mut file, room),
+        Ok(mut file) => Ok(read_full(&mut file, room)?),
         Err(_) => Ok(0),
     }
 }
 
 fn try_case<R: Files + Print>(rt: &R, case: Case) -> io::Result<()> {
-    let mut s = recording_room();
+    let mut s = input_room();
     let n = read_file(rt, case.recording, &mut s)?;
-    let mut t = text_room();
+    let mut t = [FILL; TEXT_ROOM];
     let m = read_file(rt, case.lines, &mut t)?;
     let said = if agrees(&s[..n], &t[..m]) {
         "agrees"

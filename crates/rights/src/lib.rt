@@ -4,7 +4,8 @@
 ghost use Rattle.std.specs.Prelude.{◌≡◌};
 ghost use Rattle.rights.specs.Rights as spec;
 
-// What is done to a guidance or its route; Other: what no call is.
+// What is done to a guidance or its route. Other: what no call is; no Option, since the right is judged before the request, and the skipper
+// has that of any.
 #[derive(Clone, Copy)]
 pub enum Deed {
     New,

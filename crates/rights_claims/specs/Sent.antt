@@ -10,9 +10,8 @@ use Rattle.guidance.specs.declared.plane.FlightModeReport.{FlightModeReport}
 use Rattle.claims.specs.Calls.{Call, guide, prime, set_config, take_back, Reply, Outcome, perform}
 use Rattle.route_records.specs.Record.{load_answer, load_buffer, write_answer, write_buffer}
 use Rattle.route_records.specs.declared.Loaded.{Loaded}
-use Rattle.routes.specs.Route.{fly}
+use Rattle.routes.specs.Route.{RouteCall, fly}
 use Rattle.routes.specs.declared.Route.{Route}
-use Rattle.routes.specs.declared.RouteCall.{RouteCall}
 use Rattle.routes.specs.declared.Flown.{Flown}
 use Rattle.rights.specs.Rights.{may}
 use Rattle.rights.specs.declared.Deed.{Deed}

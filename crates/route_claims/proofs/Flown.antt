@@ -22,9 +22,8 @@ use Rattle.guidance.specs.declared.plane.PlaneGuidance.{PlaneGuidance}
 use Rattle.guidance.specs.declared.plane.Guided.{Guided}
 use Rattle.claims.specs.Calls.{Call, Reply, answered, refused, perform, replies, after}
 use Rattle.claims.proofs.Demand3 as proved
-use Rattle.routes.specs.Route.{settled, is_near, is_passed, numbered, meets, reached, wanted, guided_to, route_call, check_lent}
+use Rattle.routes.specs.Route.{RouteCall, settled, is_near, is_passed, numbered, meets, reached, wanted, guided_to, route_call, check_lent}
 use Rattle.routes.specs.declared.Point.{Point}
-use Rattle.routes.specs.declared.RouteCall.{RouteCall}
 use Rattle.route_claims.specs.Flights.{
   Lent,
   points,

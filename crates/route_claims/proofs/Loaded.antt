@@ -15,8 +15,7 @@ use Rattle.guidance.specs.declared.plane.PlaneGuidance.{PlaneGuidance}
 use Rattle.route_records.specs.Record.{Route, check_map, number_count, RouteRead, read, read_route, answer_to, buffer_to, load_answer, load_buffer}
 use Rattle.route_records.specs.declared.Loaded.{Loaded}
 use Rattle.route_records.proofs.RouteBack.{held}
-use Rattle.routes.specs.Route.{counted, check_lent, route_call, fly}
-use Rattle.routes.specs.declared.RouteCall.{RouteCall}
+use Rattle.routes.specs.Route.{RouteCall, counted, check_lent, route_call, fly}
 use Rattle.routes.proofs.PointsLaw.{points_long, lent_map, some_points, few_points}
 use Rattle.route_claims.specs.Flights.{Lent, points}
 use Rattle.route_claims.specs.Claim.{Flies}

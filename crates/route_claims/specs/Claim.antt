@@ -8,8 +8,7 @@ use Rattle.guidance.specs.declared.plane.PlaneGuidance.{PlaneGuidance}
 use Rattle.claims.specs.Calls.{answered, refused, replies, after}
 use Rattle.claims.specs.Demand3.{Demand3}
 use Rattle.route_records.specs.Record.{load_answer, load_buffer}
-use Rattle.routes.specs.Route.{meets, wanted, guided_to, route_call, check_lent, fly}
-use Rattle.routes.specs.declared.RouteCall.{RouteCall}
+use Rattle.routes.specs.Route.{RouteCall, meets, wanted, guided_to, route_call, check_lent, fly}
 use Rattle.route_claims.specs.Flights.{Lent, points, Step, route, other, Flight, step, loaded, flight_after, flight_replies, all_made}
 
 -- a route call meets the test: by the number, the configuration in force and the position of that moment

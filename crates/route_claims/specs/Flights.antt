@@ -4,9 +4,8 @@ use Rattle.laws.specs.declared.types.ControlInput.TheVariants as Input
 use Rattle.guidance.specs.declared.plane.PlaneGuidance.{PlaneGuidance}
 use Rattle.claims.specs.Calls.{Call, guide, Reply, answered, Outcome, perform}
 use Rattle.fields.specs.Fields.{ones}
-use Rattle.routes.specs.Route.{points_of, waypoint_for, wanted, fly}
+use Rattle.routes.specs.Route.{RouteCall, points_of, waypoint_for, wanted, fly}
 use Rattle.routes.specs.declared.Point.{Point}
-use Rattle.routes.specs.declared.RouteCall.{RouteCall}
 use Rattle.routes.specs.declared.Flown.{Flown}
 
 -- a route as loading leaves it: its map, and the lent numbers that hold its points

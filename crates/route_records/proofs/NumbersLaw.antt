@@ -1,20 +1,20 @@
 -- Laws of the loops over a route's numbers. Assumes nothing.
 use mathlib.Core.Path.{◌≡◌, refl, sym, ap, ◌∙◌}
-use mathlib.Core.Bool.{true, false, ◌&&◌}
-use mathlib.Core.List.{List, [], ◌∷◌, ◌++◌}
+use mathlib.Core.Bool.{Bool, ◌&&◌}
+use mathlib.Core.List.{List, [], ◌∷◌, ◌++◌, map}
 use Prim.Native.Nat.{ℕ, zero, suc, ◌+◌, ◌-◌, ◌*◌, ◌<◌, ◌≤◌}
 use native.Mathlib.Omega.{arith}
 use native.Mathlib.Numerals.{add-one}
 use native.Mathlib.Nat.{add-zero}
 use lib.ListN.{length, drop, take, get_or, length-append, length-drop, drop_of_length-le, take-append-drop}
 use lib.Seq.{drop-cons, length-take-le}
-use lib.Ieee.{Float, nan, binary32, of_bits, to_bits}
+use lib.Ieee.{Float, nan, binary32, to_bits}
+use Rattle.std.specs.List.{list_all}
 use Rattle.arithmetic.specs.Order.{finite}
-use Rattle.fields.specs.Bytes.{number_at, bytes_of, put_at}
+use Rattle.fields.specs.Bytes.{bytes_of, put_at}
 use Rattle.fields.proofs.NumberLaw.{bytes_long}
 use Rattle.fields.proofs.FieldLaw.{rest_is, put_more}
 use Rattle.fields.specs.Numbers.{numbers_at}
-use Rattle.fields.proofs.FloatLaw.{number, none_left, next}
 use Rattle.route_records.specs.Record.{all_finite, number_bytes}
 
 pub numbers_long : (n : ℕ) (s : List ℕ) → length (numbers_at n s) ≡ n
@@ -24,29 +24,11 @@ numbers_long (suc n) s = ap suc (numbers_long n (drop 4 s))
 
 -- ---- whether all are finite
 
-pub record Testing (s : List ℕ) (n i : ℕ) : Type 0 where
-  pub below : i ≤ n
-  pub is : all_finite (numbers_at (n - i) (drop (4 * i) s)) ≡ all_finite (numbers_at n s)
-
-module _ {s : List ℕ} {n i : ℕ} (t : Testing s n i) where
-  tested : i < n → (finite (number s i) && all_finite (numbers_at (n - (i + 1)) (drop (4 * (i + 1)) s))) ≡ all_finite (numbers_at n s)
-  unfolding all_finite
-  tested h = sym (ap all_finite (next s n i h)) ∙ t.is
-
-  -- x is what was read of number i, and y the f32 that it is
-  module _ (h : i < n) (x : ℕ) (e : x ≡ number_at 4 (take (length s - 4 * i) (drop (4 * i) s))) (y : Float) (ey : y ≡ of_bits binary32 x) where
-    here : y ≡ number s i
-    here = ey ∙ ap (of_bits binary32) (e ∙ rw (rest_is s (4 * i)))
-
-    pub test_fails : finite y ≡ false → false ≡ all_finite (numbers_at n s)
-    test_fails f = rw (← here, f) at (tested h)
-
-    pub test_turn : finite y ≡ true → Testing s n (i + 1)
-    test_turn f = record { below = omega arith; is = rw (← here, f) at (tested h) }
-
-  pub test_done : n ≤ i → true ≡ all_finite (numbers_at n s)
-  unfolding all_finite
-  test_done h = sym (ap all_finite (none_left n i (drop (4 * i) s) h)) ∙ t.is
+-- of f32s that are made of others' values
+pub all_finite_made : {A : Type 0} (of : A → Float) (xs : List A) → list_all (λ (x : A). finite (of x)) xs ≡ all_finite (map of xs)
+unfolding all_finite
+all_finite_made of [] = refl
+all_finite_made of (x ∷ xs) = ap (λ (b : Bool). finite (of x) && b) (all_finite_made of xs)
 
 -- ---- writing
 

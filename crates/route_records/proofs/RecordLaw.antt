@@ -3,7 +3,7 @@ use Rattle.std.specs.Prelude.{Result, Ok, Err}
 use mathlib.Core.Path.{◌≡◌, sym, ap, ◌∙◌}
 use mathlib.Core.Bool.{Bool, true, false}
 use mathlib.Core.List.{List, ◌++◌}
-use Prim.Native.Nat.{ℕ, ◌+◌, ◌-◌, ◌*◌, ◌<◌, ◌≤◌}
+use Prim.Native.Nat.{ℕ, ◌+◌, ◌-◌, ◌*◌, ◌/◌, ◌<◌, ◌≤◌}
 use native.Mathlib.Omega.{arith}
 use borrow.Author.Tests.{le-leb, lt-leb, leb-true, leb-false}
 use borrow.Rule.Slice.PartMut.{put_mid}
@@ -16,6 +16,7 @@ use Rattle.fields.specs.Bytes.{has_bytes, put_at}
 use Rattle.fields.specs.Numbers.{numbers_at}
 use Rattle.fields.specs.Writing.{answer_of, buffer_of}
 use Rattle.fields.proofs.FieldLaw.{rest_is, put_after}
+use Rattle.fields.proofs.FloatLaw.{numbers_take}
 use Rattle.fields.proofs.WriteLaw as write
 use Rattle.route_records.specs.declared.Loaded.{Loaded}
 use Rattle.route_records.specs.Record.{
@@ -36,28 +37,56 @@ use Rattle.route_records.specs.Record.{
 }
 use Rattle.route_records.proofs.NumbersLaw.{numbers_long, bytes_size}
 
--- ---- lent numbers that are too few
+-- ---- reading the points
 
-module _ (s : List ℕ) (maps : Loaded) (out : List Float) (n : ℕ) (en : n ≡ number_count maps.map) where
+-- part is the bytes of the numbers that the map demands, cut out of s
+module _ (s : List ℕ) (maps : Loaded) (out : List Float) (n : ℕ) (en : n ≡ number_count maps.map) (fits : has_bytes s maps.next (4 * n) ≡ true)
+    (rest : List ℕ) (is_rest : rest ≡ drop maps.next s) where
   abbrev Found : RouteRead
   Found = read_points (Ok maps) s
+
+  abbrev Cut : List ℕ
+  Cut = take (4 * n) rest
 
   abbrev Numbers : List Float
   Numbers = numbers_at n (drop maps.next s)
 
+  cut_long : length Cut ≡ 4 * n
+  cut_long =
+      length-take-le (4 * n) rest
+      (rw is_rest (simp length-drop (omega (arith, leb-true (maps.next + 4 * n) (length s) fits))))
+
+  pub cut_numbers : numbers_at n Cut ≡ Numbers
+  cut_numbers = rw is_rest (numbers_take n (4 * n) (drop maps.next s) (omega arith))
+
   -- b says whether all are finite
-  module _ (fits : has_bytes s maps.next (4 * n) ≡ true) (b : Bool) (eb : b ≡ all_finite (numbers_at n (take (length s - maps.next) (drop maps.next s)))) (q : b ≡ true) where
-    are_finite : all_finite Numbers ≡ true
-    are_finite = ap (λ (x : List ℕ). all_finite (numbers_at n x)) (sym (rest_is s maps.next)) ∙ sym eb ∙ q
+  module _ (b : Bool) (eb : b ≡ all_finite (numbers_at (length Cut / 4) Cut)) where
+    finite_is : all_finite Numbers ≡ b
+    finite_is =
+        let count : length Cut / 4 ≡ n = omega (arith, cut_long) in
+        sym (eb ∙ ap (λ (k : ℕ). all_finite (numbers_at k Cut)) count ∙ ap all_finite cut_numbers)
 
-    found : Found ≡ read (record { map = maps.map; numbers = Numbers }) (maps.next + 4 * n)
+    pub not_finite : b ≡ false → (Err refusal.PointNotFinite ≡ answer_to Found out) × (out ≡ buffer_to Found out)
     unfolding read_points
-    found = rw (← en, fits, are_finite)
+    not_finite q = (rw (← en, fits, finite_is ∙ q), rw (← en, fits, finite_is ∙ q))
 
-    pub no_room : length out < n → (Err refusal.TooLittleRoom ≡ answer_to Found out) × (out ≡ buffer_to Found out)
-    no_room k =
-        let no = lt-leb (length Numbers) (length out) (rw (numbers_long n (drop maps.next s)) k) in
-        (rw (found, no), rw (found, no))
+    module _ (q : b ≡ true) where
+      found : Found ≡ read (record { map = maps.map; numbers = Numbers }) (maps.next + 4 * n)
+      unfolding read_points
+      found = rw (← en, fits, finite_is ∙ q)
+
+      pub no_room : length out < n → (Err refusal.TooLittleRoom ≡ answer_to Found out) × (out ≡ buffer_to Found out)
+      no_room k =
+          let no = lt-leb (length Numbers) (length out) (rw (numbers_long n (drop maps.next s)) k) in
+          (rw (found, no), rw (found, no))
+
+      pub loads : n ≤ length out → (v : List Float) → v ≡ numbers_at (length (take n out)) Cut
+          → (Ok (record { map = maps.map; next = maps.next + 4 * n }) ≡ answer_to Found out) × (v ++ drop n out ≡ buffer_to Found out)
+      loads k v ev =
+          let long = numbers_long n (drop maps.next s) in
+          let yes = le-leb (length Numbers) (length out) (rw long k) in
+          let is : v ≡ Numbers = ev ∙ rw (length-take-le n out k) cut_numbers in
+          (rw (found, yes), rw (found, yes, long, is))
 
 -- ---- writing
 

@@ -1,17 +1,17 @@
 // The route record: a 4-byte map, bits 0 to 30, whose bit 31 says that a second 4-byte map follows it, then 16 bytes for each standing
-// point: north, east, altitude, cruise speed. A route's map is the two as one, 62 bits; its numbers stand in a buffer that is lent,
-// four a point, in bit order.
+// point: north, east, altitude, cruise speed. A route's map is the two as one, 62 bits; its numbers stand in a buffer that is lent
+// (no heap), four a point, in bit order.
 #![tactic(auto)]
 
-ghost use Rattle.std.specs.Prelude.{◌≡◌, ◌++◌, ◌≤◌, ◌+◌, ◌*◌, length, drop, Ok};
+ghost use Rattle.std.specs.Prelude.{◌≡◌, ◌++◌, ◌≤◌, ◌+◌, ◌*◌, ◌/◌, length, drop, Ok};
 ghost use Rattle.fields.specs.Bytes.{put_at};
 ghost use Rattle.fields.specs.Numbers.{numbers_at};
 ghost use Rattle.route_records.specs.Record as spec;
 
-use arithmetic::order::is_finite;
-use fields::bytes::{from_bits, has_bytes, read_word, to_bits, write_number, write_word};
+use fields::bytes::{from_bits, read_word, to_bits, write_number, write_word};
 use fields::count;
 use fields::numbers::read_all;
+use fields::part::{bytes_from, check_room};
 use refusals::Refusal;
 
 // Bit 31 of the record's first map; as a number, how far the second map's bits stand above the first's in a route's map.
@@ -74,17 +74,13 @@ fn two_maps(first: u64, second: u64, next: usize) -> Result<Loaded, Refusal>
 fn read_maps(s: &[u8], at: usize) -> Result<Loaded, Refusal>
     ensures { result ≡ spec.read_maps s.now at }
 {
-    if !has_bytes(s, at, 4) {
-        return Err(Refusal::TooFewBytes);
-    }
-    let first = read_word(&s[at..]) as u64;
+    let one = bytes_from(s, at, 4)?;
+    let first = u64::from(read_word(one));
     if first < SECOND {
         return one_map(first, at + 4);
     }
-    if !has_bytes(s, at, 8) {
-        return Err(Refusal::TooFewBytes);
-    }
-    let second = read_word(&s[at + 4..]) as u64;
+    let two = bytes_from(s, at, 8)?;
+    let second = u64::from(read_word(&two[4..]));
     two_maps(first, second, at + 8)
 }
 
@@ -97,16 +93,13 @@ pub fn numbers_of(map: u64) -> usize
 }
 
 // Whether the f32s that stand one behind the other are finite.
-fn all_finite(part: &[u8], n: usize) -> bool
-    requires { 4 * n ≤ length part.now }
-    ensures { result ≡ spec.all_finite (numbers_at n part.now) }
+fn all_finite(part: &[u8]) -> bool
+    ensures { result ≡ spec.all_finite (numbers_at (length part.now / 4) part.now) }
 {
-    for i in 0..n {
-        if !is_finite(from_bits(read_word(&part[4 * i..]))) {
-            return false;
-        }
-    }
-    true
+    let (words, _) = part.as_chunks::<4>();
+    words
+        .iter()
+        .all(|word| from_bits(read_word(word)).is_finite())
 }
 
 // Reads the points of a route whose maps were read: their numbers go to the front of `out`, whose other numbers are kept.
@@ -116,16 +109,14 @@ fn load_numbers(s: &[u8], maps: Loaded, out: &mut [f32]) -> Result<Loaded, Refus
 {
     let from = maps.next;
     let n = numbers_of(maps.map);
-    if !has_bytes(s, from, 4 * n) {
-        return Err(Refusal::TooFewBytes);
-    }
-    if !all_finite(&s[from..], n) {
+    let part = &bytes_from(s, from, 4 * n)?[..4 * n];
+    if !all_finite(part) {
         return Err(Refusal::PointNotFinite);
     }
     if out.len() < n {
         return Err(Refusal::TooLittleRoom);
     }
-    read_all(&s[from..], &mut out[..n]);
+    read_all(part, &mut out[..n]);
     Ok(Loaded {
         map: maps.map,
         next: from + 4 * n,
@@ -142,6 +133,7 @@ pub fn load_route(s: &[u8], at: usize, out: &mut [f32]) -> Result<Loaded, Refusa
 }
 
 // Writes f32s one behind the other. Not `write_values`: a route has up to 248 numbers, more than a map has bits, and each stands.
+// With a place that is carried: of what a loop over as_chunks_mut leaves, a proof knows the length alone.
 fn write_numbers(part: &mut [u8], from: usize, numbers: &[f32])
     requires { from + 4 * length numbers.now ≤ length part.old }
     ensures { part.new ≡ put_at part.old from (spec.number_bytes numbers.now) }
@@ -188,9 +180,7 @@ pub fn write_route(out: &mut [u8], at: usize, map: u64, numbers: &[f32]) -> Resu
     }
     let maps = maps_size(map);
     let size = maps + 4 * n;
-    if !has_bytes(out, at, size) {
-        return Err(Refusal::TooLittleRoom);
-    }
+    check_room(out, at, size)?;
     let part = &mut out[at..];
     write_maps(part, map);
     write_numbers(part, maps, &numbers[..n]);

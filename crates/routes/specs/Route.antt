@@ -1,5 +1,5 @@
 -- A route call: "before that it moves on by one point when .."; then the leg to the point reached is flown. Definitions only.
-use Rattle.std.specs.Prelude.{Bool, false, cond, List, [], ◌∷◌, ℕ, zero, suc, ◌+◌, ◌-◌, ◌*◌, eqb, leb, length, drop, get_or, map, Float, Option, Some, None, Result, Ok, Err, is_ok}
+use Rattle.std.specs.Prelude.{Bool, false, cond, List, [], ◌∷◌, ℕ, zero, suc, ◌+◌, ◌-◌, ◌*◌, eqb, leb, length, drop, get_or, map, Float, Option, Some, None, Result, Ok, Err, is_ok, ⊤}
 use Rattle.std.specs.Float.Ieee as Ieee
 use Rattle.std.specs.Float.{nan}
 use Rattle.std.specs.Result.{result_and}
@@ -14,11 +14,11 @@ use Rattle.laws.specs.declared.types.WaypointCommand.{WaypointCommand}
 use Rattle.fields.specs.Fields.{ones}
 use Rattle.guidance.specs.Plane.{guided}
 use Rattle.guidance.specs.declared.plane.PlaneGuidance.{PlaneGuidance}
+use Rattle.guidance.specs.declared.plane.GuideCall.{GuideCall}
 use Rattle.guidance.specs.declared.plane.Guided.{Guided}
 use Rattle.route_records.specs.Record.{check_map, number_count}
 use Rattle.routes.specs.declared.Point.{Point}
 use Rattle.routes.specs.declared.Route.{Route}
-use Rattle.routes.specs.declared.RouteCall.{RouteCall}
 use Rattle.routes.specs.declared.Flown.{Flown}
 
 -- ---- points
@@ -95,6 +95,10 @@ waypoint_for ps n =
     (fly_to (numbered ps (length ps)) None))
 
 -- ---- a route call
+
+-- what comes with it; the waypoint is the route's
+abbrev pub RouteCall : Type 0
+RouteCall = GuideCall ⊤
 
 -- a refused call keeps the number
 unfoldable pub settled : ℕ → ℕ → Guided → Flown

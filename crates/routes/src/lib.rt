@@ -7,8 +7,8 @@ ghost use Rattle.routes.specs.Route as spec;
 
 use arithmetic::vector::{Vec2, difference, dot, norm};
 use fields::count;
-use guidance::plane::{Answer, Guided, PlaneGuidance};
-use laws::types::{ControlInput, FlightRegime, VehicleState, WaypointCommand, north_east};
+use guidance::plane::{Answer, GuideCall, Guided, PlaneGuidance};
+use laws::types::{ControlInput, WaypointCommand, north_east};
 use refusals::Refusal;
 use route_records::check_map;
 
@@ -28,16 +28,10 @@ pub struct Route {
     pub number: u32,
 }
 
-// What comes with a route call.
-#[derive(Clone, Copy)]
-pub struct RouteCall {
-    pub dt: f32,
-    pub regime: FlightRegime,
-    pub state: VehicleState,
-    pub cap: Option<f32>,
-}
+// What comes with a route call, whose waypoint the route gives.
+pub type RouteCall = GuideCall<()>;
 
-// The guidance and the route's number after a call, and the call's answer.
+// The guidance and the route's number after a call, and the call's answer; no Result, as `Guided`.
 #[derive(Clone, Copy)]
 pub struct Flown {
     pub guidance: PlaneGuidance,

@@ -1,9 +1,7 @@
--- `part_calls` meets its contract: the calls from each turn on part as those from the first on. Assumes nothing.
-use Rattle.agreement.proofs.Meeting.{Meeting, left}
+-- The calls from each turn on part as those from the first on. Assumes nothing.
+use Rattle.agreement.specs.Code.Steps.{calls_left}
+use Rattle.agreement.proofs.Meeting.{Meeting}
 use Rattle.agreement.proofs.part_calls.Given as goal
 
-abbrev pub invariant-loop-x : goal.invariant-loop-x
-invariant-loop-x l = Meeting l.s l.t l.initial.x l.initial.y l.x l.y
-
-abbrev pub decreases-loop-x : goal.decreases-loop-x
-decreases-loop-x l = left l.x
+abbrev pub invariant-loop-ours : goal.invariant-loop-ours
+invariant-loop-ours l = Meeting (calls_left l.fn.box_calls) (calls_left l.fn.display_calls) (calls_left l.ours-iterator) (calls_left l.display_calls)

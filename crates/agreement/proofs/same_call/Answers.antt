@@ -6,10 +6,11 @@ use Rattle.agreement.proofs.same_call.Goals as goal
 
 pub returns : goal.returns
 returns c =
-    values_same _ _ _ _
+    rw (c.eq.ensures, c.eq-2.ensures)
+    (values_same _ _ _ _
     c.parts_of-p.ensures
     c.parts_of-q.ensures
     _ _ c.bits_of.ensures
     c.bits_of-2.ensures _ _
-    (c.eq.ensures ∙ same_numbers _ _)
-    (c.eq-2.ensures ∙ same_truths _ _)
+    (c.eq-3.ensures ∙ same_numbers _ _)
+    (c.eq-4.ensures ∙ same_truths _ _))

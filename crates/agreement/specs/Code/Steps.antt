@@ -1,5 +1,6 @@
 -- The steps of `agreement`'s code. Definitions only.
-use Rattle.std.specs.Prelude.{◌≡◌, false, cond, List, [], ◌∷◌, ℕ, ◌+◌, ◌-◌, ◌≤◌, ◌<◌, eqb, IfSome, Option, Some, None, Result, Ok, Err}
+use Rattle.std.specs.Prelude.{Bool, false, cond, List, ℕ, ◌+◌, ◌-◌, Result, Ok, Err}
+use Rattle.guidance.specs.declared.plane.PlaneGuidance.{PlaneGuidance}
 use Rattle.claims.specs.Calls.{replies, refusals, strikes, unmarked}
 use Rattle.replay.specs.Recording.{most_calls, read_calls}
 use Rattle.compaction.specs.Compaction.{calls_of}
@@ -10,31 +11,27 @@ use Rattle.agreement.specs.declared.Agreement.{Agreement}
 use Rattle.agreement.specs.declared.Agreement.TheVariants as answer
 use Rattle.agreement.specs.declared.Refused.{Refused}
 use Rattle.agreement.specs.declared.Side.{Side}
-use Rattle.agreement.specs.declared.Place.{Place}
-use Rattle.agreement.specs.declared.Told.{Told}
+use Rattle.agreement.specs.declared.NumberedCall.{NumberedCall}
+use Rattle.agreement.specs.declared.RemainingCalls.{RemainingCalls}
 
--- the remaining calls after a place
-unfoldable pub told : List ℕ → Place → List Numbered
-told s p =
-    let ks = (read_calls (most_calls - p.number) s p.at).calls in
-    unmarked (strikes p.fell (calls_of ks) (refusals (replies p.guidance (calls_of ks)))) (numbered (p.number + 1) ks)
+-- the calls that stay of a recording's, from a place on, where the next has number n
+unfoldable pub calls_from : List ℕ → PlaneGuidance → ℕ → Bool → ℕ → List Numbered
+calls_from s g at fell n =
+    let ks = (read_calls (most_calls + 1 - n) s at).calls in
+    unmarked (strikes fell (calls_of ks) (refusals (replies g (calls_of ks)))) (numbered n ks)
 
--- the same from a remaining call on; none where no call remains
-abbrev pub told_from : List ℕ → Option Told → List Numbered
-told_from s None = []
-told_from s (Some r) = record { number = r.place.number; call = r.call } ∷ told s r.place
+abbrev pub calls_left : RemainingCalls → List Numbered
+calls_left c = calls_from c.recording.now c.guidance c.at c.fell c.number
 
--- the next remaining call after a place; its number is greater
-pub record Next (s : List ℕ) (p : Place) (r : Option Told) : Type 0 where
-  pub is : told s p ≡ told_from s r
-  pub rises : IfSome r (λ q. (p.number < q.place.number) × (q.place.number ≤ most_calls))
+abbrev pub calls_of_sound : List ℕ → Sound → List Numbered
+calls_of_sound s d = calls_from s d.guidance d.next false 1
 
-abbrev pub start : Sound → Place
-start d = record { guidance = d.guidance; at = d.next; fell = false; number = 0 }
+abbrev pub numbered_as : NumberedCall → Numbered
+numbered_as k = record { number = k.number; call = k.call }
 
 unfoldable pub parted : List ℕ → Sound → List ℕ → Sound → Agreement
 parted s d t e =
-    cond (same_list (config_values d.guidance.config) (config_values e.guidance.config)) (part_calls (told s (start d)) (told t (start e))) answer.PartAtConfig
+    cond (same_list (config_values d.guidance.config) (config_values e.guidance.config)) (part_calls (calls_of_sound s d) (calls_of_sound t e)) answer.PartAtConfig
 
 abbrev pub decided_for : Side → Result Sound BadRecording → Result Sound Refused
 decided_for side (Ok d) = Ok d

@@ -1,14 +1,14 @@
-use Rattle.std.proofs.Common.{rules, ◌≡◌, ◌++◌, take, drop, Ok}
+use Rattle.std.proofs.Common.{rules, ◌≡◌, ◌++◌, take, drop, Ok, sym, length-take-le}
 use Rattle.std.specs.Io.KnownBytes.{Appends}
 use Rattle.compact.specs.Output.{answer_to, output_of}
-use Rattle.compact.proofs.Law.{part, fits, of_input, short_written, nothing_written}
+use Rattle.compact.proofs.Law.{fits, of_input, short_written, nothing_written}
 use Rattle.compact.proofs.shorten.Goals as goal
 
 pub slice_bounds-bytes-end-in-Ok : goal.slice_bounds-bytes-end-in-Ok
 slice_bounds-bytes-end-in-Ok g c = fits _ _ _ _ _ c.compact-answer.ensures.0 c.compact-answer.ensures.1 c.in-Ok.is
 
 pub slice_bounds-write_all-end : goal.slice_bounds-write_all-end
-slice_bounds-write_all-end g c = part _ _ (fits _ _ _ _ _ c.compact-answer.ensures.0 c.compact-answer.ensures.1 c.in-Ok.is)
+slice_bounds-write_all-end g c = sym (length-take-le _ _ (fits _ _ _ _ _ c.compact-answer.ensures.0 c.compact-answer.ensures.1 c.in-Ok.is))
 
 pub returns-in_ok-map_err-clause-answer : goal.returns-in_ok-map_err-clause-answer
 returns-in_ok-map_err-clause-answer g c =
@@ -18,7 +18,7 @@ pub returns-in_ok-map_err-clause-written : goal.returns-in_ok-map_err-clause-wri
 returns-in_ok-map_err-clause-written g c =
     let before = g.W.Write.contents c.args.writer.now in
     let after = g.W.Write.contents c.write_all.new.self in
-    let put : Appends before after (take c.in-Ok.n (c.compact-answer.new.s ++ drop c.in_ok-size.size c.read_from.new.buffer)) = search rules in
+    let put : Appends before after (take c.in-Ok.n (c.compact-answer.new.s ++ drop c.in_ok-size.size c.read_full.new.buffer)) = search rules in
     of_input (λ s. Appends before after (output_of s)) _ _ _ c.in_ok-size.ensures.front (search rules)
     (short_written _ _ _ _ _ _ c.in-Ok.ensures.0 c.in-Ok.ensures.1 put)
 

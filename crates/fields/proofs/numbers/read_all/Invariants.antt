@@ -1,7 +1,8 @@
--- `numbers::read_all` meets its contract: f32s 0 to x-index are read. Assumes nothing.
-use lib.ListN.{length}
-use Rattle.fields.proofs.FloatLaw.{Reading}
+-- `numbers::read_all` meets its contract: f32s 0 to i are read. Assumes nothing.
+use mathlib.Core.List.{[]}
+use Rattle.fields.proofs.MapLaw.{Mapped}
+use Rattle.fields.proofs.FloatLaw.{f32_of}
 use Rattle.fields.proofs.numbers.read_all.Given as goal
 
-abbrev pub invariant-loop-x : goal.invariant-loop-x
-invariant-loop-x l = Reading l.s (length l.initial.v) l.v l.at l.x-index
+abbrev pub invariant-loop-i : goal.invariant-loop-i
+invariant-loop-i l = Mapped f32_of [] l.words l.v l.i

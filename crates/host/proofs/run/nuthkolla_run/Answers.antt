@@ -3,7 +3,7 @@ use borrow.Author.Tests.{ne_eqb}
 use Prim.Native.Nat.{ℕ}
 use Rattle.host.specs.Run.{run_by}
 use Rattle.host.specs.declared.run.Ran.{Ran}
-use Rattle.host.proofs.Kept.{put_back, change_run}
+use Rattle.host.proofs.Kept.{taken, change_run}
 use Rattle.host.proofs.run.nuthkolla_run.Goals as goal
 
 pub returns-then-what-eq0 : goal.returns-then-what-eq0
@@ -11,7 +11,7 @@ returns-then-what-eq0 c =
     let g = c.args.guidance.now in
     let r = c.call_by-r.ensures in
     let is = ap (λ (n : ℕ). run_by g c.args.caller n c.args.bytes.now) (sym c.if-what-eq0.true) in (
-      put_back g c.args.caller c.args.bytes.now c.call_by-r.result r ∙ ap (λ (y : Ran). y.guidance) is,
+      c.take_over.ensures ∙ taken g c.args.caller c.args.bytes.now c.call_by-r.result r ∙ ap (λ (y : Ran). y.guidance) is,
       ap (λ (y : Ran). y.answer) (r ∙ is),
     )
 

@@ -1,22 +1,26 @@
 -- A waypoint, or a command with five numbers.
-use Rattle.std.proofs.Common.{sym, ◌∙◌}
-use Rattle.records.proofs.CallLaw.{regime_le, numbers_front, bits_after, is_record, is_command}
+use Rattle.std.proofs.Common.{◌≡◌, false, drop, replicate, sym, ap, ◌∙◌}
+use denote.Enum.Bare.{same_false}
+use Rattle.records.specs.contracts.call.Kind.{the_type}
+use Rattle.records.specs.Call.{zero}
+use Rattle.records.specs.Code.Steps.{record_of}
+use Rattle.records.proofs.CallLaw.{is_command, bits_after, map_is}
+use Rattle.records.proofs.call_writer.record_of.Goals.{Else-eq}
 use Rattle.records.proofs.call_writer.record_of.Goals as goal
 
-pub waypoint_map-requires : goal.waypoint_map-requires
-waypoint_map-requires c = rw c.parts_of-kind.ensures (regime_le c.args.call)
+pub returns-then-eq : goal.returns-then-eq
+returns-then-eq c = map_is _ _ _ c.bits_of-numbers.ensures c.waypoint_map.ensures ∙ ap record_of c.parts_of-kind.ensures
 
-pub returns-then-kind-number : goal.returns-then-kind-number
-returns-then-kind-number c = is_record _ _ _ _ c.parts_of-kind.ensures c.bits_of-numbers.ensures c.waypoint_map.ensures
+five : (c : Else-eq) → (drop 5 c.parts_of-kind.result.numbers ≡ replicate 15 zero) × (c.parts_of-kind.result.keeps ≡ replicate 20 false)
+five c = is_command c.args.call _ c.parts_of-kind.ensures (same_false the_type _ _ (sym c.eq.ensures ∙ c.if-eq.false))
 
 pub command_bits-numbers-requires : goal.command_bits-numbers-requires
-command_bits-numbers-requires c = numbers_front _ _ c.parts_of-kind.ensures (λ e. c.if-kind-number.false (e ∙ sym c.number.ensures))
+command_bits-numbers-requires c = (five c).0
 
 pub command_map-requires : goal.command_map-requires
-command_map-requires c =
-    let e = c.parts_of-kind.ensures in
-    (rw e (regime_le c.args.call), bits_after _ _ (numbers_front _ _ e (λ k. c.if-kind-number.false (k ∙ sym c.number.ensures))) c.command_bits-numbers.ensures)
+command_map-requires c = bits_after _ _ (five (goal.at.command_map-requires c).Else-eq).0 c.command_bits-numbers.ensures
 
 pub returns : goal.returns
 returns c =
-    is_command _ _ _ _ c.parts_of-kind.ensures (λ k. c.if-kind-number.false (k ∙ sym c.number.ensures)) c.command_bits-numbers.ensures c.command_map.ensures
+    let kept = (five (goal.at.returns c).Else-eq).1 in
+    map_is _ _ _ c.command_bits-numbers.ensures (c.command_map.ensures ∙ rw kept) ∙ ap record_of c.parts_of-kind.ensures

@@ -6,10 +6,10 @@ use Rattle.records.proofs.call_writer.write_numbers.Goals as goal
 
 pub write_values-requires : goal.write_values-requires
 write_values-requires c =
-    let five : length (take 5 c.args.v.now) ≡ 5 = length-take-le 5 c.args.v.now (omega (arith, c.requires.1)) in
-    rw five (omega (arith, c.requires.0, front_ones 5 (omega arith) c.args.map c.if-map-lt32.true))
+    let five : length (take 5 c.args.v.now) ≡ 5 = length-take-le 5 c.args.v.now (omega arith) in
+    rw five (omega (arith, c.requires, front_ones 5 (omega arith) c.args.map c.if-map-lt32.true))
 
 pub returns-then-map-lt32 : goal.returns-then-map-lt32
 returns-then-map-lt32 c =
-    let five : length (take 5 c.args.v.now) ≡ 5 = length-take-le 5 c.args.v.now (omega (arith, c.requires.1)) in
+    let five : length (take 5 c.args.v.now) ≡ 5 = length-take-le 5 c.args.v.now (omega arith) in
     c.write_values.ensures.0 ∙ ap (put_at c.args.part.now c.args.from) (front_body 5 (omega arith) c.args.map c.if-map-lt32.true c.args.v.now five)

@@ -1,0 +1,2 @@
+-- What the program agree writes.
+pub mod Text

@@ -1,0 +1,2 @@
+-- What the code of this crate needs of lists.
+pub mod Cut

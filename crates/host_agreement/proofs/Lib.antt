@@ -1,0 +1,2 @@
+-- What a refusal comes to as numbers.
+pub mod Numbers

@@ -1,2 +1,0 @@
--- What the proofs of functions by reference cite.
-pub mod Kept
