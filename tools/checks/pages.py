@@ -31,10 +31,11 @@ def encoded(text, file):
     return file
 
 
-def write_page(page, *words):
-    """Runs tools/page."""
+def write_page(page, *words, status=0):
+    """Runs tools/page. status: 1 where a replay stopped early or the stories part, which standard error says, one of the two where none is given."""
     done = subprocess.run([str(TOOLS / "page"), *map(str, words), "-o", str(page)], capture_output=True, text=True)
-    expect(done.returncode == 0, f"{words[0]}: status {done.returncode}, {done.stderr[-600:]}")
+    expect(done.returncode in ((0, 1) if status is None else (status,)), f"{words[0]}: status {done.returncode}, {done.stderr[-600:]}")
+    expect(bool(done.returncode) == done.stderr.startswith("page: "), f"{words[0]}: status {done.returncode}, {done.stderr!r}")
     text = page.read_text("utf-8")
     expect(len(text.encode()) <= MOST_BYTES, f"{words[0]}: the page has {len(text.encode())} bytes")
     expect(not re.search(r"""(src|href)\s*=|url\((?!#)|@import""", text), f"{words[0]}: the page asks for something else")
@@ -71,5 +72,5 @@ def held_by(text):
 
 def plain_words(recording, lines):
     """The lines in words, by tools/plain."""
-    done = subprocess.run([str(TOOLS / "plain"), str(recording)], input=lines, capture_output=True, text=True, check=True)
-    return done.stdout.splitlines()
+    done = subprocess.run([str(TOOLS / "plain"), str(recording), "-"], input=lines, capture_output=True, text=True)
+    return done.stdout.splitlines()[done.returncode :]

@@ -2,17 +2,18 @@
 
 from typing import NamedTuple
 
-from nuthkolla import programs
+from nuthkolla import files, programs
 from nuthkolla.text import numbers_text
 from nuthkolla.words import command_words, ending_words
 
 
 class Agreement(NamedTuple):
-    """title and sentences; calls: the call of each recording at which they part, 0 where there is none."""
+    """title and sentences; calls: the call of each recording at which they part, 0 where there is none; parted: whether they do."""
 
     title: str
     words: list
     calls: tuple
+    parted: bool = True
 
 
 def field_words(call, name):
@@ -49,12 +50,12 @@ def parted(replays, calls):
 def read_agreement(box, display):
     """box, display: the replays of the two recordings."""
     data = b"".join(len(replay.data).to_bytes(4, "little") + replay.data for replay in (box, display))
-    words = programs.run([*programs.page_command(), "agree"], data).decode().split()
+    words = files.run([*programs.page_command(), "agree"], data).out.decode().split()
     if words == ["agree"]:
         told = "Every call that leaves a trace is the same in both, and so is its answer."
-        return Agreement("The recordings tell one story", [told], (0, 0))
+        return Agreement("The recordings tell one story", [told], (0, 0), False)
     if words[0] == "part":
         return parted((box, display), tuple(map(int, words[1:])))
     refused = box if words[0] == "box" else display
-    why = ending_words(words[1:], refused.configuration)
-    return Agreement(f"Not compared: {refused.name} cannot be read to its end", [f"{refused.name}: {why}."], (0, 0))
+    why = ending_words(words[1:], refused.recording, refused.data)
+    return Agreement(f"Not compared: {refused.name} cannot be read to its end", [f"{refused.name}: {why}."], (0, 0), False)

@@ -300,13 +300,11 @@ def told_counts(ground):
     return {f"data_{name}": counts[name] for name in ("energy", "hold", "fallback", "idle", "refused")}
 
 
-def draw_notes(page, ground, stopped, left, top):
-    """Lines below the map: what stopped the replay, and what is not on the map; the place after them."""
+def draw_notes(page, ground, left, top):
+    """Lines below the map: how far the turn to come goes, and what is not on the map; the place after them."""
     group = add(page, "g", "told", **told_counts(ground))
     notes = map_notes(ground, ground.recordings[0])
-    heads = [("The replay stopped", [stopped])] if stopped else []
-    if ground.ahead:
-        heads.append((f"The turn to come at call {ground.ahead.number}", [ground.ahead.words]))
+    heads = [(f"The turn to come at call {ground.ahead.number}", [ground.ahead.words])] if ground.ahead else []
     for title, lines in heads + ([("Not on the map", notes)] if notes else []):
         label(group, "ink name", left, top, title)
         for note in lines:

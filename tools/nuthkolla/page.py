@@ -13,7 +13,7 @@ import xml.etree.ElementTree as ET
 
 from nuthkolla.ground import Ground, draw_map, map_notes, route_notes
 from nuthkolla.numbers import value
-from nuthkolla.paper import legend_items, plain_text, summary
+from nuthkolla.paper import legend_items, plain_text, stopped_head, summary
 from nuthkolla.strips import Column, draw_over_time
 from nuthkolla.style import themed_style
 from nuthkolla.svg import add, label, line, path
@@ -260,11 +260,10 @@ def signs_text(flown, two, route):
 
 
 def notes_text(ground, replays):
-    """What is not on the map, and why a replay ended early, for each recording, and of the route."""
+    """What is not on the map, for each recording and of the route."""
     found = []
     for replay, recording in zip(replays, ground.recordings):
-        lines = [f"The replay stopped: {replay.ending}"] if replay.ending else []
-        found.append((f"{replay.name}: not on the map, or not replayed", lines + map_notes(ground, recording)))
+        found.append((f"{replay.name}: not on the map", map_notes(ground, recording)))
     found.append(("Not on the map", route_notes(ground)))
     items = [(title, "".join(f"<li>{html.escape(words)}</li>" for words in lines)) for title, lines in found if lines]
     return "\n".join(f"<h2>{html.escape(title)}</h2><ul>{lines}</ul>" for title, lines in items)
@@ -310,8 +309,11 @@ def flight_text(replays, agreement, route):
 
 
 def summary_text(replay, named):
-    words = summary(replay.flown) if replay.flown else replay.ending or "the recording has no calls"
-    return f"<p>{html.escape(f'{replay.name}: ' * named + words)}</p>"
+    """The head of a recording; why it ended early stands before all else."""
+    name = f"{replay.name}: " * named
+    head = "".join(f'<p class="stopped">{html.escape(name + told)}</p>' for told in stopped_head(replay.ending))
+    words = summary(replay.flown) if replay.flown else "the recording has no calls" if not replay.ending else ""
+    return head + (f"<p>{html.escape(name + words)}</p>" if words else "")
 
 
 def page_text(title, replays, agreement=None, route=()):

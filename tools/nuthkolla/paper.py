@@ -1,19 +1,21 @@
-"""The sheet that tools/draw makes: its title, the map, the strips over time and the legend."""
+"""The sheet that ./desk draw makes: its title, the map, the strips over time and the legend."""
 
+import textwrap
 import xml.etree.ElementTree as ET
 
+from nuthkolla import refusals
 from nuthkolla.flight import stall_guard
 from nuthkolla.ground import Ground, draw_map, draw_notes
 from nuthkolla.strips import Column, draw_over_time
 from nuthkolla.style import style
 from nuthkolla.svg import add, cross, hatched, head, label, line, square
-from nuthkolla.words import REFUSED, STOPPED
 
 WIDTH = 1240
 MAP = (78, 110, 560, 780)  # left, top, right, bottom
 STRIPS_LEFT, STRIPS_RIGHT = 668, 1120
 TOP = MAP[1]
 LETTER = 7.5  # about the width of a letter of the legend
+HEAD_WIDTH = 145  # letters
 
 
 def summary(flown):
@@ -29,9 +31,9 @@ def summary(flown):
     return "; ".join(words)
 
 
-def stopped(ending):
-    """Why a replay ended early, in words; none where it did not."""
-    return ending and f"at call {ending[0]}: {STOPPED[int(ending[-1])]} ({ending[-1]})"
+def stopped_head(ending):
+    """What stands before all else of a recording that was not read to its end."""
+    return [f"The replay stopped early: {ending}"] if ending else []
 
 
 # ---- the legend
@@ -40,7 +42,7 @@ def stopped(ending):
 def legend_items(flown, ahead):
     """What each sign means: how it is drawn beside a place, and its words."""
     numbers = sorted({m.answer.refusal for m in flown if m.refused})
-    reasons = "; ".join(f"{n}: {REFUSED[n]}" for n in numbers)
+    reasons = "; ".join(f"{n}: {refusals.CALL[n]}" for n in numbers)
     to_come = [(lambda g, x, y: line(g, "ahead", x, y, x + 28, y), "the turn to come")] if ahead else []
     return to_come + [
         (lambda g, x, y: add(g, "circle", "energy", cx=x + 14, cy=y, r=2.5), "waypoint call, energy law"),
@@ -78,19 +80,26 @@ def plain_text(text):
     return printable.encode("utf-8", "replace").decode("utf-8")
 
 
+def draw_head(page, ending, words):
+    """Below the title: why the replay ended early, and what the flight has."""
+    lines = [part for told in stopped_head(ending) for part in textwrap.wrap(told, HEAD_WIDTH)] + [words]
+    for n, told in enumerate(lines):
+        label(page, "ink" if told == words else "ink name", MAP[0], 56 + 15 * n if len(lines) > 1 else 66, told)
+
+
 def draw_page(title, configuration, flown, ending, ahead=None):
-    """The whole page, as an XML element."""
+    """The whole page, as an XML element. ending: in words why the replay ended early; empty where it did not."""
     title = plain_text(title)
     page = ET.Element("svg", {"xmlns": "http://www.w3.org/2000/svg", "role": "img"})
     add(page, "title", None, title)
-    add(page, "desc", None, summary(flown))
+    add(page, "desc", None, "; ".join([*stopped_head(ending), summary(flown)]))
     add(page, "style", None, style())
     paper = add(page, "rect", "paper", width=WIDTH)
     label(page, "ink title", MAP[0], 40, title)
-    label(page, "ink", MAP[0], 66, summary(flown))
+    draw_head(page, ending, summary(flown))
     ground = Ground([(flown, configuration)], MAP, ahead)
     draw_map(page, ground)
-    noted = draw_notes(page, ground, stopped(ending), MAP[0], MAP[3] + 70)
+    noted = draw_notes(page, ground, MAP[0], MAP[3] + 70)
     column = Column(flown, stall_guard(configuration, flown), STRIPS_LEFT, STRIPS_RIGHT)
     _, lowest = draw_over_time(page, column, configuration, TOP)
     height = draw_legend(page, flown, ahead, max(lowest + 30, noted + 10)) + 30

@@ -1,20 +1,31 @@
-"""The programs that answer a recording: the desk program, and the oracle where it was built."""
+"""The programs that answer a recording: those of the crates, those over the archive, and the oracle where it was built."""
 
+import functools
 import os
 import pathlib
+import re
 import subprocess
 import sys
 
-ROOT = pathlib.Path(__file__).resolve().parent.parent.parent
+from nuthkolla import files
+
+ROOT = files.ROOT
 DESK = ROOT / "target/bin/desk"
+COMPACT = ROOT / "target/bin/compact"
+AGREE = ROOT / "target/bin/agree"
+EDITION = ROOT / "target/bin/edition"
 PATHS = ROOT / "target/host/paths"
 PAGE = ROOT / "target/host/page"
+ROUTE = ROOT / "target/host/route"
 # The environment may name another build.
 ORACLE = pathlib.Path(os.environ.get("ORACLE", ROOT / "target/oracle/oracle"))
+# Whether what is missing or old is built: ./desk sets it, a script of the gate does not.
+BUILDS = "NUTHKOLLA_BUILDS"
+REFUSES = re.compile(r"config refused \d+|(config|\d+) stopped \d+", re.ASCII)
 
 
-class Missing(Exception):
-    """A program that is not built, or not from the present sources, or that failed."""
+class Missing(files.Failure):
+    """A program that is not built, or not from the present sources."""
 
 
 def built(*files):
@@ -32,23 +43,37 @@ def skip(what, missing):
     print(f"skipped: {what}: {missing}")
 
 
+def build_name(program):
+    """A program's name for tools/stamp and tools/ready: its crate's, or host/NAME."""
+    return f"host/{program.name}" if program.parent.name == "host" else program.name
+
+
+@functools.cache
+def need(*programs):
+    """Programs that a word runs: built where they are missing or old, if ./desk runs it; else they have to be there."""
+    if BUILDS in os.environ:
+        ran = subprocess.run([ROOT / "tools/ready", *map(build_name, programs)], stdin=subprocess.DEVNULL, stdout=2)
+        if ran.returncode:
+            raise SystemExit(2)  # tools/ready has said why
+    for program in programs:
+        if not program.is_file():
+            raise Missing(f"{program.relative_to(ROOT)} is not built (./desk builds what its words need)")
+
+
 def oracle_command(mode):
     if not ORACLE.is_file():
         raise Missing("target/oracle/oracle is not built")
     return [str(ORACLE), mode]
 
 
-def up_to_date(program, *more):
-    """The program's name. An old build would answer for sources that are no longer there; more: sources beside the crates."""
+@functools.cache
+def up_to_date(program):
+    """The program's name. An old build would answer for sources that are no longer there."""
     name = program.relative_to(ROOT)
     if not program.is_file():
         raise Missing(f"{name} is not built")
-    built = program.stat().st_mtime
-    # rt writes into crates/*/out/ at any time.
-    parts = [part for part in (ROOT / "crates").glob("*/*") if part.name != "out"]
-    sources = [file for part in parts for file in (part, *part.rglob("*")) if file.is_file()]
-    if any(file.stat().st_mtime > built for file in (ROOT / "crates.txt", *sources, *more)):
-        raise Missing(f"{name} is older than its sources")
+    if subprocess.run([ROOT / "tools/stamp", "is", build_name(program)], stdin=subprocess.DEVNULL).returncode:
+        raise Missing(f"{name} is not of the present sources")
     return str(program)
 
 
@@ -59,6 +84,9 @@ def own_desk_command():
 
 def desk_command():
     """The desk program, or the oracle in its place."""
+    if BUILDS in os.environ:
+        need(DESK)
+        return [str(DESK)]
     try:
         return own_desk_command()
     except Missing as missing:
@@ -70,25 +98,38 @@ def desk_command():
 
 def path_command(call, steps):
     """What draws the path at a call, and its name: the archive behind tools/host/paths.c, or the oracle in its place."""
+    words = ["at", str(call), str(steps)]
+    if BUILDS in os.environ:
+        need(PATHS)
+        return [str(PATHS), *words], "nuthkolla_draw_path"
     try:
-        program = up_to_date(PATHS, *(ROOT / name for name in ("include/nuthkolla.h", "tools/host/paths.c", "tools/host/records.h")))
-        return [program, "at", str(call), str(steps)], "nuthkolla_draw_path"
+        return [up_to_date(PATHS), *words], "nuthkolla_draw_path"
     except Missing as missing:
         if not ORACLE.is_file():
-            raise Missing(f"{missing} (tools/test/built/60-host builds it), and target/oracle/oracle is not built") from None
-        return [str(ORACLE), "path-at", str(call), str(steps)], f"the oracle: {missing}"
+            raise Missing(f"{missing}, and target/oracle/oracle is not built (./desk draw builds the former)") from None
+        return [str(ORACLE), "path-at", *words[1:]], f"the oracle: {missing}"
 
 
 def page_command():
     """What replays a recording for a page: the archive behind tools/host/page.c."""
-    if not PAGE.is_file():
-        raise Missing("target/host/page is not built (./desk page builds it)")
+    need(PAGE)
     return [str(PAGE)]
 
 
+def route_command():
+    """What flies a route: the archive behind tools/host/route.c."""
+    need(ROUTE)
+    return [str(ROUTE)]
+
+
+def ask(program, data):
+    """What a program writes, and the words of its line on standard error that refuses the input, if it does."""
+    done = files.run([program], data, may_speak=True)
+    if done.said and not REFUSES.fullmatch(done.said):
+        raise files.Failure(f"{files.program_name(program)} failed: {files.named(done.said)}")
+    return done.out, done.said.split()
+
+
 def run(command, data):
-    done = subprocess.run(command, input=data, capture_output=True)
-    if done.returncode:
-        said = done.stderr.decode(errors="replace").strip()
-        raise Missing(f"{command[0]} ended with status {done.returncode}{': ' * bool(said)}{said}")
-    return done.stdout
+    """What a program writes."""
+    return files.run(command, data).out

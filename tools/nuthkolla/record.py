@@ -3,15 +3,8 @@
 from typing import NamedTuple
 
 from nuthkolla.numbers import one_nan
+from nuthkolla.refusals import BAD_BYTE, BAD_MAP, CALL_RECORD, CONFIGURATION_RECORD, SHORT
 from nuthkolla.settings import SETTINGS
-
-# What a refusal of a record says. The desk program gives the same numbers.
-REFUSALS = {
-    5: "the record has fewer bytes than its map demands, or its map is cut short",
-    6: "the map has an unnamed bit, lacks the kind bit, or has half a leg",
-    7: "the kind byte is above 6, or the regime byte is above 1",
-}
-SHORT, BAD_MAP, BAD_BYTE = REFUSALS
 
 # The desk program reads this many calls, and so many bytes of a recording at most.
 MOST_CALLS = 4096
@@ -19,27 +12,27 @@ MOST_BYTES = 137 + 86 * MOST_CALLS + 1
 
 
 class Refusal(Exception):
-    """A record that is refused: the refusal's number, and the place of the record's first byte."""
+    """A record that is refused: the refusal's number, the place of the record's first byte, and the words of its kind of record."""
 
-    def __init__(self, number, place):
-        super().__init__(f"refusal {number} at byte {place}: {REFUSALS[number]}")
+    def __init__(self, number, place, words=CALL_RECORD):
+        super().__init__(f"refusal {number} at byte {place}: {words[number]}")
         self.number, self.place = number, place
 
 
 # ---- a map and the fields that stand in it
 
 
-def read_fields(data, place, map_bytes, good_map, sizes):
-    """The fields from a place, by bit, and the place after them. sizes: bytes of each bit's field."""
+def read_fields(data, place, map_bytes, good_map, sizes, words=CALL_RECORD):
+    """The fields from a place, by bit, and the place after them. sizes: bytes of each bit's field; words: of a refusal."""
     if len(data) - place < map_bytes:
-        raise Refusal(SHORT, place)
+        raise Refusal(SHORT, place, words)
     at = place + map_bytes
     bit_map = int.from_bytes(data[place:at], "little")
     if not good_map(bit_map):
-        raise Refusal(BAD_MAP, place)
+        raise Refusal(BAD_MAP, place, words)
     standing = [bit for bit in range(len(sizes)) if bit_map >> bit & 1]
     if len(data) - at < sum(sizes[bit] for bit in standing):
-        raise Refusal(SHORT, place)
+        raise Refusal(SHORT, place, words)
     fields = {}
     for bit in standing:
         fields[bit] = int.from_bytes(data[at : at + sizes[bit]], "little")
@@ -64,7 +57,7 @@ CONFIGURATION_SIZES = [4] * len(CONFIGURATION)
 def read_configuration(data, place=0):
     """The configuration at a place, name to bits, and the place after it."""
     good_map = lambda bit_map: bit_map >> len(CONFIGURATION) == 0
-    fields, after = read_fields(data, place, CONFIGURATION_MAP_BYTES, good_map, CONFIGURATION_SIZES)
+    fields, after = read_fields(data, place, CONFIGURATION_MAP_BYTES, good_map, CONFIGURATION_SIZES, CONFIGURATION_RECORD)
     defaults = enumerate(CONFIGURATION.items())
     return {name: one_nan(fields.get(bit, default)) for bit, (name, default) in defaults}, after
 

@@ -2,12 +2,11 @@
 
 from typing import NamedTuple
 
-from nuthkolla import programs
+from nuthkolla import files, programs
 from nuthkolla.ahead import told
-from nuthkolla.answers import check_match, read_lines
 from nuthkolla.flight import moments
 from nuthkolla.numbers import to_text
-from nuthkolla.record import read_recording
+from nuthkolla.recorded import matched
 from nuthkolla.words import ending_words
 
 
@@ -21,17 +20,21 @@ class Turn(NamedTuple):
 class Replay(NamedTuple):
     """A recording's name and bytes, and what the archive says of its calls: the desk program's lines, guard and turn by call.
 
-    ending: in words why the replay ended before the recording's end; empty where it did not.
+    recording: what nuthkolla.record reads of the bytes; ending: in words why the replay ended before the recording's end; empty where it did not.
     """
 
     name: str
     data: bytes
-    configuration: dict | None
+    recording: tuple
     flown: list
     lines: list
     guard: list
     turns: list
     ending: str
+
+    @property
+    def configuration(self):
+        return self.recording[0]
 
 
 def turn_of(words, call):
@@ -46,7 +49,7 @@ def turn_of(words, call):
 def read_replay(name, data, seconds):
     """seconds: how far ahead the turns to come reach."""
     lines, guard, paths = [], [], []
-    for line in programs.run([*programs.page_command(), "flight", str(seconds)], data).decode().splitlines():
+    for line in files.run([*programs.page_command(), "flight", str(seconds)], data).out.decode().splitlines():
         if line.startswith("guard "):
             guard.append(line == "guard 1")
         elif line.startswith("path "):
@@ -54,11 +57,8 @@ def read_replay(name, data, seconds):
         else:
             lines.append(line)
             paths.append([])
-    configuration, calls, _ = recording = read_recording(data)
-    answers, ending = found = read_lines("\n".join(lines))
-    check_match(recording, found)
-    flown = moments(calls, answers)
+    recording, (answers, ending) = matched(data, "\n".join(lines))
+    flown = moments(recording[1], answers)
     turns = [turn_of(words, moment.call) for words, moment in zip(paths, flown)]
-    return Replay(
-        name, data, configuration, flown, lines[: len(flown)], guard, turns, ending_words(ending, configuration) if ending else ""
-    )
+    words = ending_words(ending, recording, data) if ending else ""
+    return Replay(name, data, recording, flown, lines[: len(flown)], guard, turns, words)

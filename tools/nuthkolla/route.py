@@ -2,24 +2,20 @@
 
 import struct
 
+from nuthkolla import files
 from nuthkolla.numbers import NotANumber, from_text, is_finite, to_text
+from nuthkolla.refusals import ROUTE_RECORD
 from nuthkolla.text import BYTE_ORDER_MARK, BadText, fields_of
 
 BITS = 31  # of each of the two maps
 POINTS = 2 * BITS
-REFUSALS = {
-    5: "fewer bytes than the maps demand",
-    6: "the second map is empty, or its bit 31 stands",
-    10: "the map is empty",
-    11: "a number is not finite",
-}
 
 
 class BadRoute(Exception):
     """A route's record that is refused."""
 
     def __init__(self, number):
-        super().__init__(f"refused {number}: {REFUSALS[number]}")
+        super().__init__(f"refused {number}: {ROUTE_RECORD[number]}")
         self.number = number
 
 
@@ -80,6 +76,14 @@ def read_older_route(data, place):
 
 
 # ---- the text form
+
+
+def route_points(name):
+    """The points of a route's file."""
+    try:
+        return read_route_text(files.read_text_file(name))
+    except BadText as problem:
+        raise files.Failure(f"{files.named(name)}, {problem}") from None
 
 
 def route_text(points):

@@ -2,25 +2,14 @@
 
 import math
 
+from nuthkolla import refusals
 from nuthkolla.numbers import is_finite, to_text, value
-from nuthkolla.record import REFUSALS as RECORD_REFUSALS
-from nuthkolla.record import MOST_CALLS
+from nuthkolla.record import Refusal, is_second, read_call
 from nuthkolla.settings import PAIRS, SETTINGS
-
-REFUSED = {
-    2: "the time step is not finite or not above 0",
-    3: "the cap is below 0",
-    4: "a number would not be finite",
-}
-STOPPED = RECORD_REFUSALS | {9: f"there is input left after call {MOST_CALLS}"}
 
 
 def refused_words(number):
-    return f"refused, {REFUSED[number]} ({number})"
-
-
-def stopped_words(number):
-    return f"stopped, {STOPPED[number]} ({number})"
+    return f"refused, {refusals.CALL[number]} ({number})"
 
 
 def setting_words(field, configuration):
@@ -220,9 +209,43 @@ def setpoint_words(answer):
     return found
 
 
-def ending_words(ending, configuration):
-    """The line that ended a replay early: its words as the desk program prints them."""
+# ---- how a replay ended early
+
+
+def reads(data, place, either):
+    """Whether a call's record can be read at a place."""
+    try:
+        read_call(data, place, either)
+    except Refusal:
+        return False
+    return True
+
+
+def is_text(data):
+    """Whether it begins as a text form does: with a word or a comment, and printed signs alone."""
+    return data[:1] in (b"#", b"c") and all(sign in b"\t\n\r" or 32 <= sign < 127 for sign in data[:64])
+
+
+def likely(ending, recording, data):
+    """What is likely, and what helps, of a record that cannot be read; empty where nothing is known."""
+    configuration, calls, refusal = recording
+    if configuration is None:
+        if not data:
+            return refusals.EMPTY
+        return refusals.TEXT if is_text(data) else refusals.NO_CONFIGURATION if reads(data, 0, True) else ""
+    if refusal is None or ending[0] != str(len(calls) + 1):
+        return ""
+    if refusal.number == refusals.BAD_MAP and is_second(data, refusal.place) and reads(data, refusal.place, True):
+        return refusals.SECOND_EDITION
+    return refusals.ENDS_WITHIN if refusal.number == refusals.SHORT else ""
+
+
+def ending_words(ending, recording, data):
+    """The words of the line that ended a replay early. recording: what nuthkolla.record reads of the data."""
     if ending[:2] == ["config", "refused"]:
-        return f"configuration refused: {setting_words(int(ending[2]), configuration)}"
-    name = "configuration" if ending[0] == "config" else f"call {ending[0]}"
-    return f"{name} {stopped_words(int(ending[2]))}"
+        return f"configuration refused: {setting_words(int(ending[2]), recording[0])}"
+    number, is_configuration = int(ending[2]), ending[0] == "config"
+    words = (refusals.CONFIGURATION_RECORD if is_configuration else refusals.CALL_RECORD).get(number, "refused")
+    name = "configuration" if is_configuration else f"call {ending[0]}"
+    helps = likely(ending, recording, data)
+    return f"{name} stopped, {words} ({number}){': ' * bool(helps)}{helps}"
