@@ -12,6 +12,7 @@ pub mod Clamps
 pub mod StallGuard
 pub mod Capture
 pub mod StraightBack
+pub mod Struck
 mod Variants
 mod GuardVariants
 mod TieVariants

@@ -9,9 +9,10 @@ use Prim.Native.Nat.{ℕ}
 use mathlib.Core.Path.{◌≡◌, refl, sym, ap, ◌∙◌, subst}
 use mathlib.Core.Bool.{Bool, true, false, cond, not, ◌&&◌}
 use mathlib.Core.List.{List, [], ◌∷◌}
-use lib.Dec.{eqb}
+use lib.Dec.{T, eqb}
 use lib.Ieee as Ieee
-use lib.Ieee.{Float, is_nan, le, lt, neg}
+use lib.Ieee.{Float, binary32, fits, is_nan, le, lt, neg}
+use lib.Ieee.Fits.{cond-fits, add-fits, sub-fits}
 use borrow.Author.Tests.{eqb-true}
 use Rattle.arithmetic.specs.Constants.{◌+ᶠ◌, ◌-ᶠ◌, ◌·ᶠ◌, ◌/ᶠ◌, n0, frac_pi2}
 use Rattle.arithmetic.specs.Order.{greatest, clamp, finite, choose}
@@ -174,6 +175,15 @@ flag_updated : (was : ℕ) (t : TecsConfig) (airspeed : Float) → flag (update_
 unfolding update_underspeed underspeed_at
 flag_updated was t airspeed = flag_cond (lt airspeed (t.underspeed_share ·ᶠ t.min_airspeed_mps)) (le t.min_airspeed_mps airspeed) was
 
+-- what clamp and greatest choose from f32s is one
+clamped_fits : (x a b : Float) → T (fits binary32 x) → T (fits binary32 a) → T (fits binary32 b) → T (fits binary32 (clamp x a b))
+unfolding clamp
+clamped_fits x a b f g h = cond-fits binary32 (lt x a) _ _ g (cond-fits binary32 (lt b x) _ _ h f)
+
+greatest_fits : (a b : Float) → T (fits binary32 a) → T (fits binary32 b) → T (fits binary32 (greatest a b))
+unfolding greatest
+greatest_fits a b f g = cond-fits binary32 (is_nan a) _ _ g (cond-fits binary32 (is_nan b) _ _ f (cond-fits binary32 (lt b a) _ _ f g))
+
 -- ---- one waypoint
 abbrev pub in_force_of : PlaneGuidance → InForce
 in_force_of g = record { config = g.config; former = g.former; underspeed = flag g.tecs.underspeed }
@@ -223,13 +233,15 @@ module _ (g : PlaneGuidance) (dt : Float) (w : WaypointCommand) (s : VehicleStat
       (pitch_span g.config cap v q)
 
   -- a clamped correction
-  corrected : (x : Float) → is_nan (trim +ᶠ clamp x low (greatest high low)) ≡ false →
+  corrected : (x : Float) → T (fits binary32 x) → is_nan (trim +ᶠ clamp x low (greatest high low)) ≡ false →
       Corrected g.config cap (trim +ᶠ clamp x low (greatest high low))
-  corrected x n =
+  corrected x f n =
       let k = clamp x low (greatest high low) in
       let b = span x low (greatest high low) (add_number trim k n) (greatest_right high low (left_number low high correction_span)) in
+      let low_fits = sub-fits binary32 (neg down) trim in
       record {
         correction = k;
+        an_f32 = clamped_fits x low (greatest high low) f low_fits (greatest_fits high low (sub-fits binary32 up trim) low_fits);
         sum = refl;
         within = record { from = b.from; to = le_trans k (greatest high low) high b.to (greatest_le high low correction_span) };
       }
@@ -238,16 +250,16 @@ module _ (g : PlaneGuidance) (dt : Float) (w : WaypointCommand) (s : VehicleStat
   abbrev stepped : Bool → Float → PiLoop → PiLoop → PiResult
   stepped b x p p' = cond b (record { output = clamp x low (greatest high low); pi = p }) (record { output = n0; pi = p' })
 
-  pitch_by : (b : Bool) (x : Float) (p p' : PiLoop) → is_nan (trim +ᶠ (stepped b x p p').output) ≡ false →
+  pitch_by : (b : Bool) (x : Float) (p p' : PiLoop) → T (fits binary32 x) → is_nan (trim +ᶠ (stepped b x p p').output) ≡ false →
       FallbackPitch b g.config cap (trim +ᶠ (stepped b x p p').output)
-  pitch_by true x p p' n = corrected x n
-  pitch_by false x p p' n = refl
+  pitch_by true x p p' f n = corrected x f n
+  pitch_by false x p p' f n = refl
 
   fallback_within : finite (result Fallback).pitch_rad ≡ true → finite (result Fallback).thrust ≡ true →
       FallbackLimits g.config w s cap (result Fallback).pitch_rad (result Fallback).thrust
   unfolding vertical fallback limits_of pi_step pi_finite
   fallback_within fp ft = record {
-    pitch_within = pitch_by (finite (height_error w s)) _ _ _ (finite_number _ fp);
+    pitch_within = pitch_by (finite (height_error w s)) _ _ _ (add-fits binary32 _ _) (finite_number _ fp);
     thrust_within = span _ _ _ (finite_number _ ft) (thrust_span g.config v);
   }
 

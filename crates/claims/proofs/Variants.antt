@@ -74,6 +74,7 @@ use Rattle.claims.specs.Calls.{
   fresh_with,
 }
 use Rattle.claims.specs.Limits.{InForce, at_start, underspeed_at, in_force_after}
+use Rattle.claims.specs.Struck.{falls_back}
 use Rattle.guidance.specs.declared.plane.PlaneGuidance.{PlaneGuidance}
 use Rattle.guidance.specs.declared.plane.Answer.TheVariants.{Commanded, Waypoint}
 
@@ -293,6 +294,10 @@ within_plain_limit = le (neg trimmed.max_pitch_down_rad) (pitch_of (perform (fre
 forgets_accepted : Bool → Call → Bool → Bool
 forgets_accepted before k refused = fell_back before k false
 
+-- the call directly before, whatever it was
+by_the_call_before : Bool → Call → Bool → Bool
+by_the_call_before before k refused = falls_back k
+
 unheard_between : List Call
 unheard_between = fall ∷ unheard ∷ held ∷ fall ∷ []
 
@@ -469,6 +474,9 @@ striking =
     leaves_no_trace attitudes_too fell_back attitude_between ∷
     leaves_no_trace struck fell_back unheard_between ∷
     leaves_no_trace struck forgets_accepted unheard_between ∷
+    leaves_no_trace struck by_the_call_before after_fallback ∷
+    leaves_no_trace struck by_the_call_before unheard_between ∷
+    leaves_no_trace struck by_the_call_before between ∷
     within_plain_limit ∷
     []
 
@@ -503,13 +511,13 @@ in_force =
     []
 
 computed :
-    (striking ≡ true ∷ false ∷ true ∷ false ∷ true ∷ false ∷ true ∷ false ∷ false ∷ [])
+    (striking ≡ true ∷ false ∷ true ∷ false ∷ true ∷ false ∷ true ∷ false ∷ true ∷ false ∷ false ∷ false ∷ [])
     × (fresh_starts ≡ true ∷ false ∷ true ∷ false ∷ true ∷ false ∷ true ∷ false ∷ [])
     × (in_force ≡ true ∷ false ∷ true ∷ false ∷ true ∷ false ∷ true ∷ false ∷ true ∷ false ∷ true ∷ false ∷ true ∷ false ∷ [])
     × (taking_back ≡ true ∷ false ∷ false ∷ true ∷ false ∷ false ∷ [])
     × (pitches ≡ 0xbd57f532 ∷ 0xbedf66f3 ∷ [])
 unfolding striking fresh_starts in_force taking_back pitches undone_by pitch_bits without_former primed_between back_keeps weak_taken_back weightless after
-    Plane.no_former Plane.restored Plane.taken_back leaves_no_trace strikes_by same_replies same bits_of bits always forgets forgets_accepted is_attitude
+    Plane.no_former Plane.restored Plane.taken_back leaves_no_trace strikes_by same_replies same bits_of bits always forgets forgets_accepted by_the_call_before is_attitude
     attitudes_too after_fallback between attitude_between unheard_between unheard_after configured_after primed_after refused_setting weaker
     refused_slow nimble_slow slow_primed slow_fallen beside_fresh of_that_moment of_the_start starts_refused starts_configured thrust_obeys third
     reply_obeys obeys_by obeys exactly even_refused from_the_start prime_keeps fallback_keeps tecs_with config_with trimmed weak invalid nimble second

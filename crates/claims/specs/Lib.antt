@@ -7,3 +7,4 @@ pub mod Validity
 pub mod Undone
 pub mod StallGuard
 pub mod StraightBack
+pub mod Struck

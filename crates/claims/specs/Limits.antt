@@ -1,8 +1,9 @@
 -- The limits of a waypoint answer, by the configuration in force and underspeed, both worked out from the calls and from
 -- which of them were refused. Definitions only.
-use Rattle.std.specs.Prelude.{◌≡◌, Bool, true, false, cond, List, [], ◌∷◌, Float, Option, Ok, Err}
+use Rattle.std.specs.Prelude.{◌≡◌, Bool, true, false, cond, T, List, [], ◌∷◌, Float, Option, Ok, Err}
 use Rattle.std.specs.Float.Ieee as Ieee
-use Rattle.std.specs.Float.Ieee.{neg}
+use Rattle.std.specs.Float.{binary32}
+use Rattle.std.specs.Float.Ieee.{neg, fits}
 use Rattle.arithmetic.specs.Constants.{◌+ᶠ◌, ◌-ᶠ◌, ◌·ᶠ◌, n0}
 use Rattle.arithmetic.specs.Order.{finite}
 use Rattle.laws.specs.Types.{valid_airspeed}
@@ -87,9 +88,10 @@ pub record HoldLimits (c : PlaneGuidanceConfig) (pitch thrust : Float) : Type 0 
   pub pitch_is : pitch ≡ c.trim_pitch_rad
   pub thrust_is : thrust ≡ c.cruise_thrust
 
--- Fallback's pitch: trim plus a correction between -down - trim and up - trim, each rounded once.
+-- Fallback's pitch: trim plus a correction, an f32, between -down - trim and up - trim, each rounded once.
 pub record Corrected (c : PlaneGuidanceConfig) (cap : Option Float) (pitch : Float) : Type 0 where
   pub correction : Float
+  pub an_f32 : T (fits binary32 correction)
   pub sum : pitch ≡ c.trim_pitch_rad +ᶠ correction
   pub within : Between (neg (capped c.max_pitch_down_rad cap) -ᶠ c.trim_pitch_rad) correction (capped c.max_pitch_up_rad cap -ᶠ c.trim_pitch_rad)
 

@@ -1,2 +1,2 @@
-// Demand 3 and K9 about lists of what a host hands to the functions that take a caller: definitions and proofs, no code.
+// Demand 3, K2 and K9 about lists of what a host hands to the functions that take a caller: definitions and proofs, no code.
 #![tactic(auto)]

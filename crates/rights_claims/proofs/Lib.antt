@@ -2,3 +2,4 @@
 pub mod TakenOut
 pub mod Claim
 pub mod Variants
+pub mod Skipper
