@@ -29,7 +29,7 @@ use Rattle.replay.specs.Recording.{Recorded, Calls, Ending, ends, stops, Recordi
 -- ---- the forms of a line; a line of no call is the configuration's
 
 abbrev pub number_line : Option ℕ → Word → Option ℕ → Line
-number_line call w r = record { call = call; first = w; second = None; refusal = r; values = values.None }
+number_line call w r = record { call = call; first = Some w; second = None; refusal = r; values = values.None }
 
 -- `n refused R`, `config refused F`
 abbrev pub refused_line : Option ℕ → ℕ → Line
@@ -55,7 +55,7 @@ setpoint_values (Set.PlaneRate roll pitch yaw thrust) off = values.Four (bits ro
 
 -- one word or two, and a setpoint's numbers
 abbrev pub setpoint_line : ℕ → Word → Option Word → Values → Line
-setpoint_line n a b vs = record { call = Some n; first = a; second = b; refusal = None; values = vs }
+setpoint_line n a b vs = record { call = Some n; first = Some a; second = b; refusal = None; values = vs }
 
 abbrev pub kind_word : Setpoint → Word
 kind_word (Set.Plane roll pitch thrust) = word.Plane

@@ -26,7 +26,7 @@ fn number_line(call: Option<u32>, first: Word, refusal: Option<u32>) -> Line
 {
     Line {
         call,
-        first,
+        first: Some(first),
         second: None,
         refusal,
         values: Values::None,
@@ -88,7 +88,7 @@ fn setpoint_line(number: u32, first: Word, second: Option<Word>, values: Values)
 {
     Line {
         call: Some(number),
-        first,
+        first: Some(first),
         second,
         refusal: None,
         values,
