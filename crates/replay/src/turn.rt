@@ -20,8 +20,8 @@ pub struct CallLine {
     pub guidance: PlaneGuidance,
 }
 
-// A line of a word and a refusal's number, where there is one.
-fn number_line(call: Option<u32>, first: Word, refusal: Option<u32>) -> Line
+// A line of a word and a refusal's number, where there is one: any number, also one that no `Refusal` has.
+pub fn number_line(call: Option<u32>, first: Word, refusal: Option<u32>) -> Line
     ensures { result ≡ spec.number_line call first refusal }
 {
     Line {
