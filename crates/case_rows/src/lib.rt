@@ -143,6 +143,8 @@ pub fn try_rows<F: Read, T: FnMut(&Row) -> bool>(
             Some(false) => {}
         }
     }
+    // Another is read and not counted: where that fails, no count is given.
+    try_row(file, words, &mut is_right)?;
     Ok(Count {
         rows: MOST_ROWS,
         right,

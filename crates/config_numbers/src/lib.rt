@@ -36,12 +36,15 @@ pub fn tecs_of(v: [f32; 16]) -> TecsConfig
 }
 
 // The configuration of 33 numbers.
-#[tactic(auto, using(crate::proofs::Cut::cut), unfolding(crate::specs::Numbers::config_of))]
+#[tactic(auto, unfolding(crate::specs::Numbers::config_of))]
 fn config_of(v: [f32; 33]) -> PlaneGuidanceConfig
     ensures { result ≡ config_of v }
 {
-    let mut tecs = [0.0; 16];
-    tecs.copy_from_slice(&v[14..30]);
+    // One by one: copied as a slice, they made each reader of a configuration keep both arrays on the stack.
+    let tecs = [
+        v[14], v[15], v[16], v[17], v[18], v[19], v[20], v[21], v[22], v[23], v[24], v[25], v[26],
+        v[27], v[28], v[29],
+    ];
     PlaneGuidanceConfig {
         max_bank_rad: v[0],
         max_pitch_up_rad: v[1],

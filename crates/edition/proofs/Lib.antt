@@ -2,4 +2,5 @@
 pub mod Reading
 pub mod Law
 pub mod FileLaw
+pub mod Told
 pub mod LawsProof

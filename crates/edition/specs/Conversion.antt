@@ -1,12 +1,15 @@
 -- Document 02, K14, of call records one behind the other: "convert either edition to the other, written by the writer's rules".
 -- Definitions only.
-use Rattle.std.specs.Prelude.{◌≡◌, cond, List, [], ◌∷◌, ◌++◌, ℕ, zero, suc, ◌+◌, ◌<◌, ◌≤◌, eqb, leb, length, take, get_or, Result, Ok, Err}
+use Rattle.std.specs.Prelude.{◌≡◌, cond, List, [], ◌∷◌, ◌++◌, ℕ, zero, suc, ◌+◌, ◌<◌, ◌≤◌, eqb, leb, length, take, get_or, codes, Some, Result, Ok, Err}
+use Rattle.refusals.specs.Numbers.{number}
 use Rattle.fields.specs.Bytes.{put_at}
 use Rattle.editions.specs.declared.Edition.{Edition}
 use Rattle.editions.specs.declared.Edition.TheVariants.{First, Second}
 use Rattle.editions.specs.Edition.{read_as, record_as, other}
+use Rattle.lines.specs.Line.{text}
 use Rattle.replay.specs.Recording.{Recorded, Ending, ends, stops, Calls, no_calls, on_read}
 use Rattle.replay.specs.Sizes.{decisive}
+use Rattle.replay.specs.Text.{stopped_line}
 use Rattle.edition.specs.declared.Refused.{Refused}
 use Rattle.edition.specs.declared.Refused.TheVariants.{NoEdition, Record, TooLong}
 
@@ -71,3 +74,10 @@ written (Err why) bytes = []
 
 abbrev pub output_of : List ℕ → List ℕ
 output_of input = written (conversion input).answer (conversion input).bytes
+
+-- What goes to standard error: a line where something is refused. A record's is `n stopped R`, with its number and the refusal's.
+abbrev pub told : Result ℕ Refused → List ℕ
+told (Ok n) = []
+told (Err NoEdition) = codes "config stopped 255\n"
+told (Err (Record n why)) = text (stopped_line (Some n) (number why))
+told (Err TooLong) = codes "edition: standard input has more than 352393 bytes\n"

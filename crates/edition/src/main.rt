@@ -3,17 +3,18 @@
 // and leaves standard output empty; so does input that is longer than the program holds.
 #![tactic(auto)]
 
-ghost use Rattle.std.specs.Prelude.{◌≡◌, ◌≤◌, ◌<◌, length, IfSome, IfOk, IsErrOf};
+ghost use Rattle.std.specs.Prelude.{◌≡◌, ◌≤◌, ◌<◌, length, OnOk, IfSome, IfOk, IsErrOf};
 ghost use Rattle.std.specs.Io.KnownBytes.{Appends, Keeps};
 ghost use Rattle.fields.specs.Bytes.{put_at};
 ghost use Rattle.replay.specs.Sizes.{decisive};
-ghost use Rattle.edition.specs.Conversion.{converted, conversion, AnswersWhole, output_of};
+ghost use Rattle.edition.specs.Conversion.{converted, conversion, AnswersWhole, output_of, told};
 
 use editions::{Edition, convert};
 use input::{Failure, INPUT_ROOM, input_room, tell};
 use reading::read_full;
 use refusals::Refusal;
 use replay::turn::stopped_line;
+use std::io;
 use std::io::{Read, Write};
 
 // Why the input is refused: its first byte is no edition, the record of a number, from 1, or too many bytes.
@@ -80,22 +81,26 @@ fn convert_input<R: Read, W: Write>(
     Ok(done)
 }
 
+// Tells on a stream, as standard error, why the input is refused; of one that is converted, nothing.
+fn tell_answer<W: Write>(writer: &mut W, answer: Result<usize, Refused>) -> io::Result<()>
+    ensures { OnOk result (Appends (W.contents writer.old) (W.contents writer.new) (told answer)) }
+{
+    match answer {
+        Ok(_) => Ok(()),
+        Err(Refused::NoEdition) => tell(writer, stopped_line(None, Refusal::UnknownRequest)),
+        Err(Refused::Record { number, why }) => tell(writer, stopped_line(Some(number), why)),
+        Err(Refused::TooLong) => writeln!(
+            writer,
+            "edition: standard input has more than 352393 bytes"
+        ),
+    }
+}
+
 fn main(rt: HostRuntime) {
     let done = convert_input(&mut rt.reader(), &mut rt.stdout());
     // A line that standard error does not take is lost.
     let _ = match done {
-        Ok(Ok(_)) => Ok(()),
-        Ok(Err(Refused::TooLong)) => eprintln!(rt;
-            "edition: standard input has more than 352393 bytes"
-        ),
-        Ok(Err(Refused::NoEdition)) => tell(
-            &mut rt.stderr(),
-            stopped_line(None, Refusal::UnknownRequest),
-        ),
-        Ok(Err(Refused::Record { number, why })) => tell(
-            &mut rt.stderr(),
-            stopped_line(Some(number), why),
-        ),
+        Ok(answer) => tell_answer(&mut rt.stderr(), answer),
         Err(failure) => eprintln!(rt; "edition: {failure}"),
     };
 }

@@ -102,8 +102,8 @@ module _ {s : List ℕ} {from map n : ℕ} {v : List Float} {k at : ℕ} (f : Fi
       let e : n - k ≡ d + (n - (k + d)) = omega arith in
       rw e (sym (replicate-append-replicate d (n - (k + d)) (of_bits binary32 0)))
 
-  -- the next group is +0 so far
-  next_none : mid_of k d v ≡ none d
+  -- the next group is d f32s that are +0 so far
+  pub next_none : mid_of k d v ≡ none d
   next_none = rw (rest, apart) (take_at (none d) (none (n - (k + d))) d (length-replicate d (of_bits binary32 0)))
 
   next_long : length (mid_of k d v) ≡ d

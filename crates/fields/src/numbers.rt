@@ -10,13 +10,21 @@ use crate::read_values;
 
 // The f32s with these bits. Here and below by index: of what a zip over iter_mut leaves, a proof knows the length alone, and an
 // array's `map` asks for a bound on N.
+pub fn floats(bits: &[u32], v: &mut [f32])
+    requires { length v.old ≡ length bits.now }
+    ensures { v.new ≡ floats_of bits.now }
+{
+    for (i, x) in v.iter_mut().enumerate() {
+        *x = from_bits(bits[i]);
+    }
+}
+
+// The same of an array.
 pub fn floats_of<const N: usize>(b: [u32; N]) -> [f32; N]
     ensures { result ≡ floats_of b.entry }
 {
     let mut v = [0.0f32; N];
-    for (i, x) in v.iter_mut().enumerate() {
-        *x = from_bits(b[i]);
-    }
+    floats(&b, &mut v);
     v
 }
 

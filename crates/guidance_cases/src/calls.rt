@@ -11,29 +11,30 @@ use laws::types::{
 
 pub type Guide = GuideCall<ControlInput>;
 
-// A call on a guidance.
+// A call on a guidance, or one that makes it anew.
 #[derive(Clone, Copy)]
 pub enum Call {
     Prime,
     Guide(Guide),
     SetConfig(PlaneGuidanceConfig),
+    New(PlaneGuidanceConfig),
     TakeBack,
 }
 
 impl Call {
-    // None where no such call has the row's number.
-    pub fn of(row: &Row) -> Option<Call> {
+    // A command of kind 6, or of none of these numbers, is an absolute rate.
+    pub fn of(row: &Row) -> Call {
         match row.words[0] {
-            0 => Some(Call::Prime),
-            1 => Some(Call::guide(row, ControlInput::Attitude(attitude(row)))),
-            2 => Some(Call::guide(row, ControlInput::Rate(rate(row)))),
-            3 => Some(Call::guide(row, ControlInput::Waypoint(waypoint(row)))),
-            4 => Some(Call::guide(row, ControlInput::AbsoluteAttitude(absolute_attitude(row)))),
-            5 => Some(Call::guide(row, ControlInput::Land)),
-            6 => Some(Call::guide(row, ControlInput::AbsoluteRate(absolute_rate(row)))),
-            7 => Some(Call::SetConfig(config(row))),
-            9 => Some(Call::TakeBack),
-            _ => None,
+            0 => Call::Prime,
+            1 => Call::guide(row, ControlInput::Attitude(attitude(row))),
+            2 => Call::guide(row, ControlInput::Rate(rate(row))),
+            3 => Call::guide(row, ControlInput::Waypoint(waypoint(row))),
+            4 => Call::guide(row, ControlInput::AbsoluteAttitude(absolute_attitude(row))),
+            5 => Call::guide(row, ControlInput::Land),
+            7 => Call::SetConfig(config(row)),
+            8 => Call::New(config(row)),
+            9 => Call::TakeBack,
+            _ => Call::guide(row, ControlInput::AbsoluteRate(absolute_rate(row))),
         }
     }
 
@@ -48,7 +49,7 @@ impl Call {
     }
 }
 
-pub fn config(row: &Row) -> PlaneGuidanceConfig {
+fn config(row: &Row) -> PlaneGuidanceConfig {
     config_of_bits(row.words(1))
 }
 

@@ -1,60 +1,40 @@
 // Runs a row's call, and says whether the answer and the stored state are the row's.
-use crate::calls::{Call, Guide, config};
+use crate::calls::{Call, Guide};
 use case_rows::energy::energy_words;
 use case_rows::{Row, to_bits};
 use guidance::plane::{Answer, Guided, PlaneGuidance};
 use laws::types::Setpoint;
 use refusals::Refusal;
 
-// The number of a row that makes a guidance. No variant of `Call`, which needs a guidance.
-const NEW: u32 = 8;
-
-// A setpoint's number, 1 for a plane setpoint and 2 for a rate setpoint, and its numbers' bits.
-fn setpoint_words(setpoint: Setpoint) -> [u32; 5] {
+// Whether words 37 on are the setpoint's: 1 for a plane setpoint and 2 for a rate setpoint, and its numbers.
+fn is_setpoint(row: &Row, setpoint: Setpoint) -> bool {
     match setpoint {
         Setpoint::Plane {
             roll_rad,
             pitch_rad,
             thrust,
-        } => [1, to_bits(roll_rad), to_bits(pitch_rad), to_bits(thrust), 0],
+        } => row.words[37] == 1 && row.has(38, [roll_rad, pitch_rad, thrust]),
         Setpoint::PlaneRate {
             roll_radps,
             pitch_radps,
             yaw_radps,
             thrust,
-        } => [
-            2,
-            to_bits(roll_radps),
-            to_bits(pitch_radps),
-            to_bits(yaw_radps),
-            to_bits(thrust),
-        ],
+        } => row.words[37] == 2 && row.has(38, [roll_radps, pitch_radps, yaw_radps, thrust]),
     }
 }
 
-// Words 34 to 41: the refusal's number; the laws, numbered from 1 in the order in which they are declared; the setpoint, and of
-// a waypoint the distance off the line.
-fn answer_words(answer: Result<Answer, Refusal>) -> [u32; 8] {
+// Words 34 to 41, as far as the answer has them: a refusal's number, or 0; the laws, numbered from 1 in the order in which they are
+// declared, or 0 in place of the lateral one; the setpoint; of a waypoint the distance off the line.
+fn is_answer(row: &Row, answer: Result<Answer, Refusal>) -> bool {
     match answer {
-        Err(refusal) => [refusal.number(), 0, 0, 0, 0, 0, 0, 0],
-        Ok(Answer::Commanded(setpoint)) => {
-            let [kind, a, b, c, d] = setpoint_words(setpoint);
-            [0, 0, 0, kind, a, b, c, d]
-        }
+        Err(refusal) => row.words[34] == refusal.number(),
+        Ok(Answer::Commanded(setpoint)) => row.words(34) == [0, 0] && is_setpoint(row, setpoint),
         Ok(Answer::Waypoint(w)) => {
             let lateral = w.laws.lateral as u32 + 1;
             let vertical = w.laws.vertical as u32 + 1;
-            let [kind, roll, pitch, thrust, _] = setpoint_words(w.setpoint);
-            [
-                0,
-                lateral,
-                vertical,
-                kind,
-                roll,
-                pitch,
-                thrust,
-                to_bits(w.cross_track_m),
-            ]
+            row.words(34) == [0, lateral, vertical]
+                && is_setpoint(row, w.setpoint)
+                && row.has(41, [w.cross_track_m])
         }
     }
 }
@@ -91,9 +71,9 @@ fn take_over(g: &mut PlaneGuidance, changed: Result<PlaneGuidance, u32>) -> u32 
     }
 }
 
-// Makes a row's call on the guidance.
-fn is_obeyed(row: &Row, call: Call, g: &mut PlaneGuidance) -> bool {
-    match call {
+// Makes a row's call on the guidance that the row before it left. A refused `new` leaves it, and says nothing of its state.
+pub fn try_call(row: &Row, g: &mut PlaneGuidance) -> bool {
+    match Call::of(row) {
         Call::Prime => {
             *g = g.prime();
             is_state(row, g) && is_report(row, g)
@@ -101,37 +81,22 @@ fn is_obeyed(row: &Row, call: Call, g: &mut PlaneGuidance) -> bool {
         Call::Guide(c) => {
             let after = guided(g, c);
             *g = after.guidance;
-            row.words(34) == answer_words(after.answer) && is_state(row, g) && is_report(row, g)
+            is_answer(row, after.answer) && is_state(row, g) && is_report(row, g)
         }
         Call::SetConfig(config) => {
             let changed = g.set_config(config).map_err(|invalid| invalid.field);
             take_over(g, changed) == row.words[34] && is_state(row, g)
         }
+        Call::New(config) => match PlaneGuidance::new(config) {
+            Ok(made) => {
+                *g = made;
+                row.words[34] == 0 && is_state(row, g)
+            }
+            Err(invalid) => row.words[34] == invalid.field,
+        },
         Call::TakeBack => {
             let changed = g.take_back().map_err(|refusal| refusal.number());
             take_over(g, changed) == row.words[34] && is_state(row, g)
         }
-    }
-}
-
-// Makes the guidance of a row's configuration, if it is accepted.
-fn is_made(row: &Row, guidance: &mut Option<PlaneGuidance>) -> bool {
-    match PlaneGuidance::new(config(row)) {
-        Ok(made) => {
-            *guidance = Some(made);
-            row.words[34] == 0 && is_state(row, &made)
-        }
-        Err(invalid) => row.words[34] == invalid.field,
-    }
-}
-
-// Makes a row's call; there is no guidance before the first `new`.
-pub fn try_call(row: &Row, guidance: &mut Option<PlaneGuidance>) -> bool {
-    if row.words[0] == NEW {
-        return is_made(row, guidance);
-    }
-    match (Call::of(row), guidance) {
-        (Some(call), Some(g)) => is_obeyed(row, call, g),
-        _ => false,
     }
 }

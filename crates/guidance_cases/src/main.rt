@@ -6,6 +6,11 @@ mod calls;
 mod check;
 
 use case_rows::{Count, try_group};
+use guidance::plane::{Former, PlaneGuidance};
+use laws::config::PlaneGuidanceConfig;
+use laws::navigation::PiLoop;
+use laws::tecs;
+use laws::types::FlightRegime;
 use std::io;
 use std::rt::Files;
 
@@ -35,9 +40,20 @@ const GROUPS: [&str; 19] = [
     "wild",
 ];
 
+// The guidance before a file's first `new`: the default configuration's.
+fn start() -> PlaneGuidance {
+    PlaneGuidance {
+        config: PlaneGuidanceConfig::default(),
+        requested: FlightRegime::Plane as u32,
+        altitude: PiLoop::default(),
+        tecs: tecs::reset(),
+        former: Former::default(),
+    }
+}
+
 // Tries the rows of one file, each on the guidance that the row before it left.
 fn try_calls<R: Files + Print + Eprint>(rt: &R, name: &str) -> io::Result<Count> {
-    let mut guidance = None;
+    let mut guidance = start();
     try_group(rt, name, WORDS, |row| check::try_call(row, &mut guidance))
 }
 

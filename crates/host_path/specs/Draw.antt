@@ -1,11 +1,9 @@
 -- The drawn path for a host: a waypoint call as numbers, and no other command. Definitions only.
-use Rattle.std.specs.Prelude.{ℕ, cond, List, eqb, ltb, Float, Option, Some, None, Result, Ok, Err}
-use Rattle.refusals.specs.Numbers.{number}
+use Rattle.std.specs.Prelude.{ℕ, cond, List, eqb, ltb, Float, Option, Result, Ok, Err}
 use Rattle.refusals.specs.declared.Refusal.{Refusal}
 use Rattle.refusals.specs.declared.Refusal.TheVariants as why
 use Rattle.guidance.specs.declared.plane.PlaneGuidance.{PlaneGuidance}
-use Rattle.path.specs.Model.{stop_number}
-use Rattle.path.specs.Path.{answer, buffer}
+use Rattle.path.specs.Path.{answer, buffer, refusal_number, step_number, reason_number}
 use Rattle.path.specs.declared.draw.Drawn.{Drawn as Path}
 use Rattle.path.specs.declared.draw.Stopped.{Stopped}
 use Rattle.host_path.specs.declared.Drawn.{Drawn}
@@ -14,12 +12,11 @@ use Rattle.call_numbers.specs.declared.CallNumbers.{CallNumbers}
 
 -- a refusal with its number: nothing is drawn
 abbrev pub refused : Refusal → Drawn
-refused why = record { refusal = number why; reason = 0; drawn = 0; stopped = 0 }
+refused why = record { refusal = refusal_number (Err why); reason = 0; drawn = 0; stopped = 0 }
 
--- a step that stopped the path: its refusal's number, 0 for a number that is not finite
+-- how many points were drawn, and the step that stopped the path, with its reason
 abbrev pub ended : ℕ → Option Stopped → Drawn
-ended drawn None = record { refusal = 0; reason = 0; drawn = drawn; stopped = 0 }
-ended drawn (Some s) = record { refusal = 0; reason = stop_number s.why; drawn = drawn; stopped = s.step }
+ended drawn s = record { refusal = 0; reason = reason_number s; drawn = drawn; stopped = step_number s }
 
 abbrev pub drawn_of : Result Path Refusal → Drawn
 drawn_of (Err why) = refused why

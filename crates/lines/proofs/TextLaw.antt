@@ -14,7 +14,7 @@ use Rattle.lines.specs.declared.Word.TheVariants.{Plane, Rate, Prime, Track, Loi
 use Rattle.lines.specs.declared.Values.{Values}
 use Rattle.lines.specs.declared.Values.TheVariants as count
 use Rattle.lines.specs.declared.Line.{Line}
-use Rattle.lines.specs.Line.{value, word, words, subject, refusal, values, listed, numbers, text, line_room}
+use Rattle.lines.specs.Line.{value, word, any_word, words, subject, refusal, values, listed, numbers, text, line_room}
 use Rattle.lines.proofs.DigitLaw.{digits_long, decimal_short}
 
 -- ---- the values
@@ -56,10 +56,14 @@ word_short Fallback = omega arith
 word_short Refused = omega arith
 word_short Stopped = omega arith
 
-words_short : (first : Word) (second : Option Word) → length (words first second) ≤ 18
+any_short : (w : Option Word) → length (any_word w) ≤ 9
+unfolding any_word
+any_short None = omega arith
+any_short (Some w) = word_short w
+
+words_short : (first second : Option Word) → length (words first second) ≤ 18
 unfolding words
-words_short first None = omega (arith, word_short first)
-words_short first (Some second) = simp length-append (omega (arith, word_short first, word_short second))
+words_short first second = simp length-append (omega (arith, any_short first, any_short second))
 
 subject_short : (call : Option ℕ) → length (subject call) ≤ 10
 unfolding subject
@@ -73,6 +77,8 @@ refusal_short (Some n) = omega (arith, decimal_short 10 n)
 
 listed_short : (v : Values) → length (listed v) ≤ 4
 listed_short count.None = omega arith
+listed_short (count.One v) = simp length-take (omega arith)
+listed_short (count.Two v) = simp length-take (omega arith)
 listed_short (count.Three v) = simp length-take (omega arith)
 listed_short (count.Four v) = simp length-take (omega arith)
 

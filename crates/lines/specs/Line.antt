@@ -54,9 +54,11 @@ unfoldable pub refusal : Option ℕ → List ℕ
 refusal None = []
 refusal (Some n) = 32 ∷ decimal n
 
--- none, three or four; an array of three has three, which its list alone doesn't show
+-- none to four; an array of three has three, which its list alone doesn't show
 abbrev pub listed : Values → List ℕ
 listed count.None = []
+listed (count.One v) = take 1 v
+listed (count.Two v) = take 2 v
 listed (count.Three v) = take 3 v
 listed (count.Four v) = take 4 v
 
@@ -68,10 +70,14 @@ value v = 32 ∷ hex8 v
 abbrev pub values : List ℕ → List ℕ
 values vs = flat_map value vs
 
--- one word or two
-unfoldable pub words : Word → Option Word → List ℕ
-words first None = word first
-words first (Some second) = word first ++ word second
+-- a word, where there is one
+unfoldable pub any_word : Option Word → List ℕ
+any_word None = []
+any_word (Some w) = word w
+
+-- at most two words
+unfoldable pub words : Option Word → Option Word → List ℕ
+words first second = any_word first ++ any_word second
 
 -- a refusal's number and a list of values
 unfoldable pub numbers : Option ℕ → List ℕ → List ℕ

@@ -4,7 +4,7 @@
 #![tactic(auto)]
 
 ghost use Rattle.std.specs.Prelude.{◌≡◌, ◌≤◌, ◌<◌, length};
-ghost use Rattle.lines.specs.Line.{digit, digits, decimal, hex8, value, word, words, subject, refusal, values, listed, numbers, text, Puts};
+ghost use Rattle.lines.specs.Line.{digit, digits, decimal, hex8, value, word, any_word, words, subject, refusal, values, listed, numbers, text, Puts};
 
 // No line has more bytes.
 pub const LINE_ROOM: usize = 80;
@@ -28,6 +28,8 @@ pub enum Word {
 #[derive(Clone, Copy)]
 pub enum Values {
     None,
+    One([u32; 1]),
+    Two([u32; 2]),
     Three([u32; 3]),
     Four([u32; 4]),
 }
@@ -36,7 +38,7 @@ pub enum Values {
 #[derive(Clone, Copy)]
 pub struct Line {
     pub call: Option<u32>,
-    pub first: Word,
+    pub first: Option<Word>,
     pub second: Option<Word>,
     // A number and no Refusal: a configuration's failing field is printed here too, and lines know no refusals.
     pub refusal: Option<u32>,
@@ -71,6 +73,8 @@ impl Values {
     {
         match self {
             Values::None => &[],
+            Values::One(one) => one,
+            Values::Two(two) => two,
             Values::Three(three) => three,
             Values::Four(four) => four,
         }
@@ -148,23 +152,24 @@ fn put_subject(part: &mut [u8], call: Option<u32>) -> usize
     }
 }
 
-fn put_word(part: &mut [u8], w: Word) -> usize
-    requires { length (word w) ≤ length part.old }
-    ensures { Puts (word w) part.old part.new result }
+#[tactic(auto, unfolding(crate::specs::Line::any_word))]
+fn put_word(part: &mut [u8], w: Option<Word>) -> usize
+    requires { length (any_word w) ≤ length part.old }
+    ensures { Puts (any_word w) part.old part.new result }
 {
-    put_bytes(part, w.letters())
+    match w {
+        None => 0,
+        Some(w) => put_bytes(part, w.letters()),
+    }
 }
 
 #[tactic(auto, using(crate::proofs::PutLaw::puts), unfolding(crate::specs::Line::words))]
-fn put_words(part: &mut [u8], first: Word, second: Option<Word>) -> usize
+fn put_words(part: &mut [u8], first: Option<Word>, second: Option<Word>) -> usize
     requires { length (words first second) ≤ length part.old }
     ensures { Puts (words first second) part.old part.new result }
 {
     let at = put_word(part, first);
-    match second {
-        None => at,
-        Some(second) => at + put_word(&mut part[at..], second),
-    }
+    at + put_word(&mut part[at..], second)
 }
 
 #[tactic(auto, using(crate::proofs::PutLaw::puts), unfolding(crate::specs::Line::refusal))]

@@ -2,13 +2,12 @@
 // gives for the same entries: tools/vectors/records.py makes both files and says what an entry is.
 #![tactic(auto)]
 
-use reading::read_full;
 use records::call::read_call;
 use records::call_writer::write_call;
 use records::config::{read_config, write_config};
 use refusals::Refusal;
 use std::io;
-use std::io::Read;
+use std::io::{ErrorKind, Read, Write};
 
 // What stands in a buffer before a record is written.
 const FILL: u8 = 165;
@@ -18,9 +17,16 @@ fn place(b: u8) -> usize {
     if b == 255 { usize::MAX } else { usize::from(b) }
 }
 
+// The digit of the lower half of a byte.
+fn digit(b: u8) -> u8 {
+    let n = b % 16;
+    if n < 10 { b'0' + n } else { b'a' - 10 + n }
+}
+
+// Not `{b:02x}`: a formatter for each byte took two and a half times the program's instructions.
 fn print_hex<R: Print>(rt: &R, bytes: &[u8]) -> io::Result<()> {
     for b in bytes {
-        print!(rt; "{b:02x}")?;
+        io::writer(rt).write_all(&[digit(b / 16), digit(*b)])?;
     }
     Ok(())
 }
@@ -56,9 +62,13 @@ fn try_record<
     }
 }
 
-// Fills the room; false where the file has fewer bytes.
+// Fills the room; false where the file has fewer bytes. std's own reading goes on after a read that was interrupted.
 fn fill<F: Read>(file: &mut F, room: &mut [u8]) -> io::Result<bool> {
-    Ok(read_full(file, room)? == room.len())
+    match file.read_exact(room) {
+        Ok(()) => Ok(true),
+        Err(e) if e.kind() == ErrorKind::UnexpectedEof => Ok(false),
+        Err(e) => Err(e),
+    }
 }
 
 // Reads an entry and tries it; false where the file has no whole one left.

@@ -29,7 +29,7 @@ use Rattle.replay.specs.Recording.{Recorded, Calls, Ending, ends, stops, Recordi
 -- ---- the forms of a line; a line of no call is the configuration's
 
 abbrev pub number_line : Option ℕ → Word → Option ℕ → Line
-number_line call w r = record { call = call; first = w; second = None; refusal = r; values = values.None }
+number_line call w r = record { call = call; first = Some w; second = None; refusal = r; values = values.None }
 
 -- `n refused R`, `config refused F`
 abbrev pub refused_line : Option ℕ → ℕ → Line
@@ -39,9 +39,13 @@ refused_line call r = number_line call word.Refused (Some r)
 abbrev pub stopped_line : Option ℕ → ℕ → Line
 stopped_line call r = number_line call word.Stopped (Some r)
 
+-- the call that a number names; 0 is the configuration
+unfoldable pub called : ℕ → Option ℕ
+called n = cond (eqb n 0) None (Some n)
+
 -- `n prime`
 abbrev pub prime_line : ℕ → Line
-prime_line n = number_line (Some n) word.Prime None
+prime_line n = number_line (called n) word.Prime None
 
 -- a number's bits; nan's are 7fc00000
 abbrev pub bits : Float → ℕ
@@ -55,7 +59,7 @@ setpoint_values (Set.PlaneRate roll pitch yaw thrust) off = values.Four (bits ro
 
 -- one word or two, and a setpoint's numbers
 abbrev pub setpoint_line : ℕ → Word → Option Word → Values → Line
-setpoint_line n a b vs = record { call = Some n; first = a; second = b; refusal = None; values = vs }
+setpoint_line n a b vs = record { call = called n; first = Some a; second = b; refusal = None; values = vs }
 
 abbrev pub kind_word : Setpoint → Word
 kind_word (Set.Plane roll pitch thrust) = word.Plane
@@ -73,7 +77,7 @@ vertical_word Vertical.Fallback = word.Fallback
 
 -- "law names or setpoint kind"
 unfoldable pub answer_line : ℕ → Result Answer Refusal → Line
-answer_line n (Err why) = refused_line (Some n) (number why)
+answer_line n (Err why) = refused_line (called n) (number why)
 answer_line n (Ok (Answered.Commanded s)) = setpoint_line n (kind_word s) None (setpoint_values s None)
 answer_line n (Ok (Answered.Waypoint a)) =
     setpoint_line n (lateral_word a.laws.lateral) (Some (vertical_word a.laws.vertical)) (setpoint_values a.setpoint (Some a.cross_track_m))
@@ -82,8 +86,8 @@ answer_line n (Ok (Answered.Waypoint a)) =
 unfoldable pub reply_line : ℕ → Reply → Line
 reply_line n (guidance.answered a) = answer_line n a
 reply_line n guidance.done = prime_line n
-reply_line n (guidance.field f) = refused_line (Some n) f
-reply_line n (guidance.back r) = refused_line (Some n) r
+reply_line n (guidance.field f) = refused_line (called n) f
+reply_line n (guidance.back r) = refused_line (called n) r
 
 -- ---- the lines of a list of calls
 

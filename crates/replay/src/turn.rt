@@ -20,13 +20,13 @@ pub struct CallLine {
     pub guidance: PlaneGuidance,
 }
 
-// A line of a word and a refusal's number, where there is one.
-fn number_line(call: Option<u32>, first: Word, refusal: Option<u32>) -> Line
+// A line of a word and a refusal's number, where there is one: any number, also one that no `Refusal` has.
+pub fn number_line(call: Option<u32>, first: Word, refusal: Option<u32>) -> Line
     ensures { result ≡ spec.number_line call first refusal }
 {
     Line {
         call,
-        first,
+        first: Some(first),
         second: None,
         refusal,
         values: Values::None,
@@ -54,10 +54,18 @@ pub fn stopped_line(call: Option<u32>, why: Refusal) -> Line
     number_line(call, Word::Stopped, Some(why.number()))
 }
 
+// The call that a number names; 0 is the configuration.
+#[tactic(auto, unfolding(crate::specs::Text::called))]
+fn called(number: u32) -> Option<u32>
+    ensures { result ≡ spec.called number }
+{
+    (number != 0).then_some(number)
+}
+
 fn prime_line(number: u32) -> Line
     ensures { result ≡ spec.prime_line number }
 {
-    number_line(Some(number), Word::Prime, None)
+    number_line(called(number), Word::Prime, None)
 }
 
 // The setpoint's numbers, and of a waypoint the distance off the line.
@@ -87,8 +95,8 @@ fn setpoint_line(number: u32, first: Word, second: Option<Word>, values: Values)
     ensures { result ≡ spec.setpoint_line number first second values }
 {
     Line {
-        call: Some(number),
-        first,
+        call: called(number),
+        first: Some(first),
         second,
         refusal: None,
         values,
@@ -130,7 +138,7 @@ fn answer_line(number: u32, answer: Result<Answer, Refusal>) -> Line
     ensures { result ≡ spec.answer_line number answer }
 {
     match answer {
-        Err(why) => refused_line(Some(number), why),
+        Err(why) => refused_line(called(number), why),
         Ok(Answer::Commanded(setpoint)) => setpoint_line(
             number,
             kind_word(setpoint),

@@ -2,10 +2,11 @@
 use Rattle.std.specs.Prelude.{Result, Ok, Err, Float}
 use Rattle.std.specs.Result.{result_and}
 use mathlib.Core.Path.{◌≡◌, refl, sym, ap, ◌∙◌}
-use mathlib.Core.Bool.{cond}
+use mathlib.Core.Bool.{Bool, true, false, cond}
 use mathlib.Core.List.{List, [], ◌∷◌}
-use Prim.Native.Nat.{ℕ, zero, suc, ◌-◌, ◌≤◌}
+use Prim.Native.Nat.{ℕ, zero, suc, ◌-◌, ◌*◌, ◌≤◌}
 use native.Mathlib.Omega.{arith}
+use borrow.Author.Tests.{leb-true}
 use lib.Dec.{leb}
 use lib.ListN.{length, drop, take, get_or}
 use Rattle.std.proofs.lemmas.List.{get_or-take}
@@ -67,3 +68,18 @@ lent_map m long e = go (check_map m) e
         → r ≡ Ok tt
     go (Ok u) w = refl
     go (Err why) w = cc
+
+-- so there is a point, each has its numbers, and there are no more than sixty-two
+pub lent_gives : (m long : ℕ) → check_lent m long ≡ Ok tt → (1 ≤ ones 64 m) × (4 * ones 64 m ≤ long) × (ones 64 m ≤ 62)
+unfolding check_lent number_count
+lent_gives m long e = (some_points m map, go (check_map m) (leb (4 * ones 64 m) long) refl e, few_points m map)
+  where
+    map : check_map m ≡ Ok tt
+    map = lent_map m long e
+
+    go : (r : Result (Unit {0}) Refusal) → (b : Bool) → leb (4 * ones 64 m) long ≡ b
+        → ◌≡◌ {A = Result (Unit {0}) Refusal} (result_and r (cond b (Ok tt) (Err refusal.TooFewBytes))) (Ok tt)
+        → 4 * ones 64 m ≤ long
+    go (Ok u) true q w = leb-true (4 * ones 64 m) long q
+    go (Ok u) false q w = absurd (cc)
+    go (Err why) b q w = absurd (cc)

@@ -1,10 +1,10 @@
--- `numbers::floats_of` meets its contract. Assumes nothing.
+-- `numbers::floats` meets its contract. Assumes nothing.
 use native.Mathlib.Omega.{arith}
 use lib.Ieee.{binary32, of_bits}
 use Rattle.fields.specs.Numbers.{floats_of}
 use Rattle.fields.proofs.MapLaw.{done}
-use Rattle.fields.proofs.numbers.floats_of.Goals as goal
+use Rattle.fields.proofs.numbers.floats.Goals as goal
 
 pub returns : goal.returns
 unfolding floats_of
-returns g c = done (of_bits binary32) 0 c.loop-i.invariant (omega arith)
+returns c = done (of_bits binary32) 0 c.loop-i.invariant (omega arith)

@@ -1,2 +1,0 @@
--- What the code of this crate needs of lists.
-pub mod Cut
