@@ -42,15 +42,28 @@ TEXT = b"config\nland dt=1\nland\n"
 POINTS = b"point 0 at=900,0 altitude=60 cruise=17\n"
 ROUTE = bytes.fromhex("01000000" "00006144" "00000000" "00007042" "00008841")  # bit 0; north, east, altitude, cruise of the line above
 LONG = config() + AIMED * 4096
+REFUSED, REFUSED_TEXT = config({2: -1.0}), b"config max_pitch_up_rad=-1"
+REFUSED_LINES = b"config refused 2\n"
+
+
+def refused(recording):
+    """A recording or its text form, all of whose configuration is left out, with one that fails in a field."""
+    is_text = recording.startswith(b"config")
+    return recording.replace(b"config", REFUSED_TEXT, 1) if is_text else REFUSED + recording.removeprefix(config())
 
 
 class Word(NamedTuple):
-    """words: as they stand after ./desk, with @in, @out and @other; given: what @in has; suffix: of its name; program: that it runs first."""
+    """words: as they stand after ./desk, with @in, @out and @other; given: what @in has; suffix: of its name; program: that it runs first.
+
+    recording: the place of the recording whose configuration it reads; lines: of that recording's lines; none where it reads none.
+    """
 
     words: str
     given: bytes
     program: str | None
     suffix: str = ""
+    recording: str | None = "in"
+    lines: str | None = None
 
 
 WORDS = {
@@ -58,18 +71,18 @@ WORDS = {
     "compact, a text": Word("compact @in @out", TEXT, "bin/compact", ".txt"),
     "edition": Word("edition 2 @in @out", RECORDING, "bin/edition"),
     "edition, a text": Word("edition 2 @in @out", TEXT, "bin/edition", ".txt"),
-    "edition --calls": Word("edition 2 --calls @in @out", RECORDS, "bin/edition"),
+    "edition --calls": Word("edition 2 --calls @in @out", RECORDS, "bin/edition", recording=None),
     "page": Word("page @in -o @out", RECORDING, "host/page"),
     "page, the second": Word("page @other @in -o @out", RECORDING, "host/page"),
-    "page --route": Word("page @other --route @in -o @out", POINTS, "host/page", ".txt"),
+    "page --route": Word("page @other --route @in -o @out", POINTS, "host/page", ".txt", recording="other"),
     "draw": Word("draw @in -o @out", RECORDING, "bin/desk"),
-    "draw, its lines": Word("draw @land @in -o @out", b"1 plane 00000000 00000000 00000000\n", None),
-    "draw --ahead": Word("draw @in @lines --ahead 2 -o @out", RECORDING, "host/paths"),
-    "route": Word("route @in -o @out --calls 9", POINTS, "host/route", ".txt"),
+    "draw, its lines": Word("draw @land @in -o @out", b"1 plane 00000000 00000000 00000000\n", None, recording="land", lines="in"),
+    "draw --ahead": Word("draw @in @lines --ahead 2 -o @out", RECORDING, "host/paths", lines="lines"),
+    "route": Word("route @in -o @out --calls 9", POINTS, "host/route", ".txt", recording=None),
     "encode": Word("recording encode @in -o @out", TEXT, None, ".txt"),
     "decode": Word("recording decode @in -o @out", RECORDING, None),
-    "encode-route": Word("recording encode-route @in -o @out", POINTS, None, ".txt"),
-    "decode-route": Word("recording decode-route @in -o @out", ROUTE, None),
+    "encode-route": Word("recording encode-route @in -o @out", POINTS, None, ".txt", recording=None),
+    "decode-route": Word("recording decode-route @in -o @out", ROUTE, None, recording=None),
 }
 # What an endless file is for each word: for a recording the first record of zeros ends it; what is read whole has a bound.
 STOPPED = r"call 1 stopped, the map has an unnamed bit, lacks the kind bit, or has half a leg \(6\)"
@@ -93,6 +106,26 @@ class Fault(NamedTuple):
     whole: bool = False
 
 
+# What a configuration that is refused is for each word that reads one.
+FIELD = "configuration refused: field 2, max_pitch_up_rad, has to be from 0 to PI/2; it is -1 rad"
+SHORTER = Fault(1, f"compact: @in: {FIELD}; @out is not written")
+OTHER_EDITION = Fault(1, f"edition: @in: {FIELD}", whole=True)
+SPELLED = Fault(1, f"recording: @in: {FIELD}", whole=True)
+CONFIG_REFUSED = {
+    "compact": SHORTER,
+    "compact, a text": SHORTER,
+    "edition": OTHER_EDITION,
+    "edition, a text": OTHER_EDITION,
+    "page": Fault(1, f"page: given: {FIELD}", whole=True),
+    "page, the second": Fault(1, f"page: given: {FIELD}", whole=True),
+    "page --route": Fault(1, f"page: other: {FIELD}", whole=True),
+    "draw": Fault(1, f"draw: @in: {FIELD}"),
+    "draw, its lines": Fault(1, f"draw: land: {FIELD}"),
+    "draw --ahead": Fault(1, f"draw: @in: {FIELD}"),
+    "encode": SPELLED,
+    "decode": SPELLED,
+}
+
 SAME = Fault(2, "@word: @out is @in itself, which is read: name another file")
 FAULTS = {
     "none": Fault(0, "", True),
@@ -115,11 +148,14 @@ FAULTS = {
     "in a folder": Fault(2, "@word: @in is a folder"),
     "in missing": Fault(2, "@word: there is no file @in"),
     "in unreadable": Fault(2, "@word: @in cannot be read: Input/output error"),
+    "config refused": Fault(0, "", True),  # of a word that reads no configuration; it does its work
 }
 
 
 def expected(name, word, fault):
     """What a cell has to show. Without a program there is none that is killed or wants for stack: the word does its work."""
+    if fault == "config refused" and word.recording:
+        return CONFIG_REFUSED[name]
     if word.program is None and fault in SCRIPTS:
         return FAULTS["none"]
     if fault == "in endless" and name in ENDLESS:
@@ -268,6 +304,15 @@ class Cell:
         self.stands()
         self.link_in("unreadable", "/proc/self/mem")
 
+    def plant_config_refused(self):
+        """The lines are those that the desk program prints."""
+        self.stands()
+        if self.word.recording:
+            file = self.file(self.word.recording)
+            file.write_bytes(refused(file.read_bytes()))
+        if self.word.lines:
+            self.file(self.word.lines).write_bytes(REFUSED_LINES)
+
     def link_in(self, name, to):
         self.places["in"] = name + self.word.suffix
         self.file("in").symlink_to(to)
@@ -330,9 +375,12 @@ class Cell:
         if self.fault == "none":
             wholes[self.name] = has
             return "" if len(has) > 5 else "the output is empty"
-        if self.fault == "in endless":
+        if self.fault in ("in endless", "config refused") and self.name.startswith("page"):
             return "" if b"The replay stopped early" in has else "the page does not say that the replay stopped"
-        return "" if has == wholes[self.name] else "the output is not what it is without a fault"
+        wanted = wholes[self.name]
+        if self.fault == "config refused" and self.word.recording:
+            wanted = refused(wanted)
+        return "" if has == wanted else "the output is not what it should be"
 
 
 def difference(before, after):

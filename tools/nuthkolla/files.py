@@ -24,10 +24,10 @@ class Failure(Exception):
     """What a tool could not do, in one line."""
 
 
-def named(name):
-    """A file's name on one line, whatever stands in it."""
+def named(name, standard="standard input"):
+    """A file's name on one line, whatever stands in it. standard: which of the two - is."""
     text = "".join(c if c.isprintable() else "?" for c in os.fspath(name)) or "''"
-    return "standard input" if text == STANDARD else text.encode("utf-8", "replace").decode()
+    return standard if text == STANDARD else text.encode("utf-8", "replace").decode()
 
 
 def cannot(name, what, problem):
